@@ -1,0 +1,5 @@
+pub mod IntRing
+pub mod Ring
+pub mod Order
+pub mod Parity
+pub mod Tests

@@ -1,0 +1,44 @@
+-- Tests and the facts that they tell.
+use mathlib.Core.Path.{_≡_, refl, sym, ap, _∙_}
+use mathlib.Core.Logic.{_⊎_, inl, inr}
+use mathlib.Core.Bool.{Bool, true, false, _&&_, _||_, false≢true}
+use native.Mathlib.Omega.{arith}
+use Rattle.std.proofs.shelf.Signed.{ints, by-ltZ}
+use lib.IntN.{ℤ, pos}
+use lib.Signed.{ltZ, leZ, _≤ℤ_, _<ℤ_}
+
+pub le-true : (a b : ℤ) → a ≤ℤ b → leZ a b ≡ true
+le-true a b h = grind (arith, ints)
+
+pub le-false : (a b : ℤ) → b <ℤ a → leZ a b ≡ false
+le-false a b h = grind (arith, ints)
+
+pub le-of : (a b : ℤ) → leZ a b ≡ true → a ≤ℤ b
+le-of a b e = by-ltZ b a (λ h. absurd (false≢true (sym (le-false a b h) ∙ e))) (λ h. h)
+
+pub or-left : {a : Bool} (b : Bool) → a ≡ true → (a || b) ≡ true
+or-left b e = ap (λ x. x || b) e
+
+pub or-right : (a : Bool) {b : Bool} → b ≡ true → (a || b) ≡ true
+or-right true e = refl
+or-right false e = e
+
+pub or-cases : (a b : Bool) → (a || b) ≡ true → (a ≡ true) ⊎ (b ≡ true)
+or-cases true b e = inl refl
+or-cases false b e = inr e
+
+pub both : {a b : Bool} → a ≡ true → b ≡ true → (a && b) ≡ true
+both e f = cc
+
+pub and-same : {a b c d : Bool} → a ≡ b → c ≡ d → (a && c) ≡ (b && d)
+and-same e f = cc
+
+pub and-split : (a b : Bool) → (a && b) ≡ true → (a ≡ true) × (b ≡ true)
+and-split true b e = (refl, e)
+and-split false b e = absurd (false≢true e)
+
+-- two tests that pass together are the same
+pub same-test : (a b : Bool) → (a ≡ true → b ≡ true) → (b ≡ true → a ≡ true) → a ≡ b
+same-test true b f g = sym (f refl)
+same-test false true f g = g refl
+same-test false false f g = refl

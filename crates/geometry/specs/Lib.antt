@@ -1,0 +1,5 @@
+pub mod Geometry
+pub mod Cells
+pub mod Closed
+pub mod Range
+pub mod Read
