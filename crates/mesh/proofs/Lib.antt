@@ -1,0 +1,21 @@
+-- The theorems are in Closed, Seal, Chains, Touched, Thin, Tetrahedra and Crossing; the other modules serve them.
+pub mod Exprs
+pub mod Signs
+pub mod Means
+pub mod Closed
+pub mod Chord
+pub mod Split
+pub mod Turned
+pub mod Origin
+pub mod Row
+pub mod Segments
+pub mod StepX
+pub mod StepY
+pub mod StepZ
+pub mod Seal
+pub mod Sides
+pub mod Touched
+pub mod Thin
+pub mod Chains
+pub mod Crossing
+pub mod Tetrahedra

@@ -1,0 +1,3 @@
+pub mod Means
+pub mod Chains
+pub mod Tetrahedra

@@ -1,0 +1,3 @@
+pub mod Shifted
+pub mod Sizes
+pub mod Toggling
