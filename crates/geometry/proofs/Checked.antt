@@ -9,11 +9,12 @@ use Rattle.geometry.specs.declared.mesh.Point.{Point}
 use Rattle.geometry.specs.declared.mesh.Triangle.{Triangle}
 use Rattle.geometry.specs.Range.{point-in-range, triangle-in-range}
 
-some-is : (b : Bool) (x p : Point) → Some x ≡ cond b (Some p) None → (b ≡ true) × (x ≡ p)
+-- something was answered, so the check was passed; nothing was answered, so it was not
+pub some-is : {A : Type 0} (b : Bool) (x p : A) → Some x ≡ cond b (Some p) None → (b ≡ true) × (x ≡ p)
 some-is true x p e = (refl, cc)
 some-is false x p e = let z : _≡_ {A = ℕ} 0 1 = cc in absurd (omega arith)
 
-none-is : (b : Bool) (p : Point) → None ≡ cond b (Some p) None → b ≡ false
+pub none-is : {A : Type 0} (b : Bool) (p : A) → None ≡ cond b (Some p) None → b ≡ false
 none-is true p e = let z : _≡_ {A = ℕ} 0 1 = cc in absurd (omega arith)
 none-is false p e = refl
 
