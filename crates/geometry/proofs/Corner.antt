@@ -9,7 +9,7 @@ use Rattle.std.proofs.shelf.Signed.{ints, by-ltZ}
 use lib.IntN.{ℤ, pos, _+ℤ_, _-ℤ_, _*ℤ_}
 use lib.Signed.{leZ, _≤ℤ_, _<ℤ_}
 use Rattle.algebra.proofs.Ring.{var, num, _⊕_, _⊖_, _⊗_, ring}
-use Rattle.algebra.proofs.Order.{mul-nonneg}
+use Rattle.algebra.proofs.Order.{mul-le, mul-ge}
 use Rattle.algebra.proofs.Tests.{le-true, le-false, le-of, or-left, or-right, or-cases, same-test}
 use Rattle.geometry.specs.declared.mesh.Point.{Point}
 use Rattle.geometry.specs.declared.mesh.Triangle.{Triangle}
@@ -32,28 +32,6 @@ far-corner a b c h k = corner-of h k (leZ (pos 0) a) (leZ (pos 0) b) (leZ (pos 0
 -- the same test at each corner
 pub at-corner-same : (h : ℤ) (k : Point) (f g : Point → Bool) → ((q : Point) → f q ≡ g q) → at-corner h k f ≡ at-corner h k g
 at-corner-same h k f g e = ap (at-corner h k) (fun-ext e)
-
--- products keep the order, or turn it
-up-mul : (a u v : ℤ) → pos 0 ≤ℤ a → u ≤ℤ v → (a *ℤ u) ≤ℤ (a *ℤ v)
-up-mul a u v i j =
-    over _ _ (subst (λ x. pos 0 ≤ℤ x) (ring (a ∷ u ∷ v ∷ []) (var 0 ⊗ (var 2 ⊖ var 1)) (var 0 ⊗ var 2 ⊖ var 0 ⊗ var 1) refl) (mul-nonneg a (v -ℤ u) i (gap u v j)))
-  where
-    gap : (u v : ℤ) → u ≤ℤ v → pos 0 ≤ℤ (v -ℤ u)
-    gap u v i = omega (arith, ints)
-    over : (u v : ℤ) → pos 0 ≤ℤ (v -ℤ u) → u ≤ℤ v
-    over u v i = omega (arith, ints)
-
-down-mul : (a u v : ℤ) → a <ℤ pos 0 → u ≤ℤ v → (a *ℤ v) ≤ℤ (a *ℤ u)
-down-mul a u v i j =
-    over _ _ (subst (λ x. x ≤ℤ ((pos 0 -ℤ a) *ℤ v))
-        (ring (a ∷ u ∷ []) ((num (pos 0) ⊖ var 0) ⊗ var 1) (num (pos 0) ⊖ var 0 ⊗ var 1) refl)
-        (up-mul (pos 0 -ℤ a) u v (neg a i) j))
-    (ring (a ∷ v ∷ []) ((num (pos 0) ⊖ var 0) ⊗ var 1) (num (pos 0) ⊖ var 0 ⊗ var 1) refl)
-  where
-    neg : (a : ℤ) → a <ℤ pos 0 → pos 0 ≤ℤ (pos 0 -ℤ a)
-    neg a i = omega (arith, ints)
-    over : (u v : ℤ) {w : ℤ} → (pos 0 -ℤ u) ≤ℤ w → w ≡ pos 0 -ℤ v → v ≤ℤ u
-    over u v {w} i e = omega (arith, ints)
 
 module _ (h : ℤ) (h-some : pos 0 ≤ℤ h) where
   low-high : (k : ℤ) → low h k ≤ℤ high h k
@@ -80,9 +58,9 @@ module _ (h : ℤ) (h-some : pos 0 ≤ℤ h) where
     where
       below : a <ℤ pos 0 → (q ≡ low h k) ⊎ (q ≡ high h k) → (a *ℤ q) ≤ℤ (a *ℤ low h k)
       below n (inl e) = subst (λ x. (a *ℤ x) ≤ℤ (a *ℤ low h k)) (sym e) (same (a *ℤ low h k))
-      below n (inr e) = subst (λ x. (a *ℤ x) ≤ℤ (a *ℤ low h k)) (sym e) (down-mul a (low h k) (high h k) n (low-high k))
+      below n (inr e) = subst (λ x. (a *ℤ x) ≤ℤ (a *ℤ low h k)) (sym e) (mul-ge a (low h k) (high h k) n (low-high k))
       above : pos 0 ≤ℤ a → (q ≡ low h k) ⊎ (q ≡ high h k) → (a *ℤ q) ≤ℤ (a *ℤ high h k)
-      above n (inl e) = subst (λ x. (a *ℤ x) ≤ℤ (a *ℤ high h k)) (sym e) (up-mul a (low h k) (high h k) n (low-high k))
+      above n (inl e) = subst (λ x. (a *ℤ x) ≤ℤ (a *ℤ high h k)) (sym e) (mul-le a (low h k) (high h k) n (low-high k))
       above n (inr e) = subst (λ x. (a *ℤ x) ≤ℤ (a *ℤ high h k)) (sym e) (same (a *ℤ high h k))
 
   -- a test that holds at an end

@@ -13,7 +13,7 @@ use lib.IntN.{ℤ, pos, negsuc, natAbs, _+ℤ_, _-ℤ_, _*ℤ_, *ℤ-comm}
 use lib.Signed.{ltZ, leZ, _≤ℤ_, _<ℤ_}
 use Rattle.algebra.specs.Parity.{_⊻_}
 use Rattle.algebra.proofs.Ring.{var, num, _⊕_, _⊖_, _⊗_, ring}
-use Rattle.algebra.proofs.Order.{mul-pos, mul-nonneg, pos-of-mul, nonneg-of-mul}
+use Rattle.algebra.proofs.Order.{gap, nonneg-of-pos, mul-pos, mul-nonneg, lt-scaled, nonneg-scaled}
 use Rattle.algebra.proofs.Tests.{le-true, le-false, le-of, same-test}
 use Rattle.geometry.specs.declared.mesh.Point.{Point}
 use Rattle.geometry.specs.declared.mesh.Triangle.{Triangle}
@@ -41,21 +41,9 @@ module _ (p a b : Point) where
       none true = refl
       none false = refl
 
-  lt-scaled : (n k : ℤ) → pos 0 <ℤ k → ltZ (pos 0) n ≡ ltZ (pos 0) (n *ℤ k)
-  lt-scaled n k h = by-ltZ (pos 0) n
-      (λ y. on n y ∙ sym (on (n *ℤ k) (mul-pos n k y h)))
-      (λ y. off n y ∙ sym (by-ltZ (pos 0) (n *ℤ k) (λ z. absurd (clash n y (pos-of-mul n k h z))) (off (n *ℤ k))))
-    where
-      on : (n : ℤ) → pos 0 <ℤ n → ltZ (pos 0) n ≡ true
-      on n h = grind (arith, ints)
-      off : (n : ℤ) → n ≤ℤ pos 0 → ltZ (pos 0) n ≡ false
-      off n h = grind (arith, ints)
-      clash : (n : ℤ) → n ≤ℤ pos 0 → pos 0 <ℤ n → ⊥
-      clash n h k = omega (arith, ints)
-
   -- the side goes up past the height
   pub upward : leZ (a .z) (p .z) ≡ true → leZ (b .z) (p .z) ≡ false → ltZ (pos 0) e ≡ counts p a b
-  upward h k = lt-scaled e (b .z -ℤ a .z) (rise (a .z) (b .z) (p .z) h k) ∙ sym (ap (λ x. (x ⊻ leZ (b .z) (p .z)) && ltZ (pos 0) (ahead p a b)) h ∙ ap (λ x. not x && ltZ (pos 0) (ahead p a b)) k)
+  upward h k = sym (lt-scaled e (b .z -ℤ a .z) (rise (a .z) (b .z) (p .z) h k)) ∙ sym (ap (λ x. (x ⊻ leZ (b .z) (p .z)) && ltZ (pos 0) (ahead p a b)) h ∙ ap (λ x. not x && ltZ (pos 0) (ahead p a b)) k)
     where
       rise : (u v z : ℤ) → leZ u z ≡ true → leZ v z ≡ false → pos 0 <ℤ (v -ℤ u)
       rise u v z h k = grind (arith, ints)
@@ -63,7 +51,7 @@ module _ (p a b : Point) where
   -- the side goes down past the height
   pub downward : leZ (a .z) (p .z) ≡ false → leZ (b .z) (p .z) ≡ true → ltZ e (pos 0) ≡ counts p a b
   downward h k =
-      turn e ∙ lt-scaled (pos 0 -ℤ e) (a .z -ℤ b .z) (fall (a .z) (b .z) (p .z) h k)
+      turn e ∙ sym (lt-scaled (pos 0 -ℤ e) (a .z -ℤ b .z) (fall (a .z) (b .z) (p .z) h k))
       ∙ ap (ltZ (pos 0)) (ring (e ∷ a .z ∷ b .z ∷ []) ((num (pos 0) ⊖ var 0) ⊗ (var 1 ⊖ var 2)) (var 0 ⊗ (var 2 ⊖ var 1)) refl)
       ∙ sym (ap (λ x. (x ⊻ leZ (b .z) (p .z)) && ltZ (pos 0) (ahead p a b)) h ∙ ap (λ x. x && ltZ (pos 0) (ahead p a b)) k)
     where
@@ -103,12 +91,10 @@ module _ (a s q : ℤ) (s-some : pos 0 <ℤ s) (fl : Floor a s q) where
   before k h =
       down a (q *ℤ s) s (s *ℤ k) _
       (ring (s ∷ q ∷ k ∷ []) (var 0 ⊗ ((num (pos 0) ⊖ var 1) ⊖ var 2 ⊖ num (pos 1))) (num (pos 0) ⊖ var 1 ⊗ var 0 ⊖ var 0 ⊗ var 2 ⊖ var 0) refl)
-      (fl .high) (mul-nonneg s ((pos 0 -ℤ q) -ℤ k -ℤ pos 1) (weak s s-some) (gap k (pos 0 -ℤ q) h))
+      (fl .high) (mul-nonneg s ((pos 0 -ℤ q) -ℤ k -ℤ pos 1) (nonneg-of-pos s s-some) (strict k (pos 0 -ℤ q) h))
     where
-      weak : (a : ℤ) → pos 0 <ℤ a → pos 0 ≤ℤ a
-      weak a h = omega (arith, ints)
-      gap : (k m : ℤ) → k <ℤ m → pos 0 ≤ℤ (m -ℤ k -ℤ pos 1)
-      gap k m h = omega (arith, ints)
+      strict : (k m : ℤ) → k <ℤ m → pos 0 ≤ℤ (m -ℤ k -ℤ pos 1)
+      strict k m h = omega (arith, ints)
       down : (a u s v w : ℤ) → w ≡ pos 0 -ℤ u -ℤ v -ℤ s → a <ℤ (u +ℤ s) → pos 0 ≤ℤ w → (a +ℤ v) <ℤ pos 0
       down a u s v w e h k = omega (arith, ints)
 
@@ -116,12 +102,8 @@ module _ (a s q : ℤ) (s-some : pos 0 <ℤ s) (fl : Floor a s q) where
   from-on k h =
       up a (q *ℤ s) (s *ℤ k) _
       (ring (s ∷ q ∷ k ∷ []) (var 0 ⊗ (var 2 ⊖ (num (pos 0) ⊖ var 1))) (var 0 ⊗ var 2 ⊕ var 1 ⊗ var 0) refl)
-      (fl .low) (mul-nonneg s (k -ℤ (pos 0 -ℤ q)) (weak s s-some) (gap (pos 0 -ℤ q) k h))
+      (fl .low) (mul-nonneg s (k -ℤ (pos 0 -ℤ q)) (nonneg-of-pos s s-some) (gap (pos 0 -ℤ q) k h))
     where
-      weak : (a : ℤ) → pos 0 <ℤ a → pos 0 ≤ℤ a
-      weak a h = omega (arith, ints)
-      gap : (m k : ℤ) → m ≤ℤ k → pos 0 ≤ℤ (k -ℤ m)
-      gap m k h = omega (arith, ints)
       up : (a u v w : ℤ) → w ≡ v +ℤ u → u ≤ℤ a → pos 0 ≤ℤ w → pos 0 ≤ℤ (a +ℤ v)
       up a u v w e h k = omega (arith, ints)
 
@@ -156,9 +138,9 @@ module _ (a s q : ℤ) (n : ℕ) (s-some : pos 0 <ℤ s) (fl : Floor a s q) wher
 -- ---- along a row
 
 -- whether a triangle covers the row does not depend on x
-covers-row : (t : Triangle) (x x′ y z : ℤ) → covers (record { x = x; y = y; z = z }) t ≡ covers (record { x = x′; y = y; z = z }) t
+pub covers-along : (t : Triangle) (x x′ y z : ℤ) → covers (record { x = x; y = y; z = z }) t ≡ covers (record { x = x′; y = y; z = z }) t
 unfolding edge
-covers-row t x x′ y z = refl
+covers-along t x x′ y z = refl
 
 -- the plane's value grows by n.x for each unit
 plane-row : (t : Triangle) (h k y z : ℤ)
@@ -170,21 +152,13 @@ plane-row t h k y z =
     (N ⊗ (((H ⊕ H) ⊗ K ⊕ H) ⊖ var 3) ⊕ var 4 ⊕ var 5)
     ((N ⊗ (((H ⊕ H) ⊗ num (pos 0) ⊕ H) ⊖ var 3) ⊕ var 4 ⊕ var 5) ⊕ ((H ⊕ H) ⊗ N) ⊗ K) refl
 
-le-scaled : (v k : ℤ) → pos 0 <ℤ k → leZ (pos 0) (v *ℤ k) ≡ leZ (pos 0) v
-le-scaled v k h = same-test _ _
-    (λ e. le-true _ _ (nonneg-of-mul v k h (le-of _ _ e)))
-    (λ e. le-true _ _ (mul-nonneg v k (le-of _ _ e) (weak k h)))
-  where
-    weak : (a : ℤ) → pos 0 <ℤ a → pos 0 ≤ℤ a
-    weak a h = omega (arith, ints)
-
 -- a product with a number that is not 0 has the sign of the product with its sign
 same-sign : (v n : ℤ) → (n ≡ pos 0 → ⊥) → leZ (pos 0) (v *ℤ n) ≡ leZ (pos 0) (sign n *ℤ v)
 same-sign v n z =
     by-ltZ n (pos 0)
     (λ l. ap (leZ (pos 0)) (ring (v ∷ n ∷ []) (var 0 ⊗ var 1) ((num (pos 0) ⊖ var 0) ⊗ (num (pos 0) ⊖ var 1)) refl)
-        ∙ le-scaled (pos 0 -ℤ v) (pos 0 -ℤ n) (over n l) ∙ turn v ∙ inner-down n v l)
-    (λ l. le-scaled v n (above n z l) ∙ inner-up n v l)
+        ∙ nonneg-scaled (pos 0 -ℤ v) (pos 0 -ℤ n) (over n l) ∙ turn v ∙ inner-down n v l)
+    (λ l. nonneg-scaled v n (above n z l) ∙ inner-up n v l)
   where
     over : (n : ℤ) → n <ℤ pos 0 → pos 0 <ℤ (pos 0 -ℤ n)
     over n h = omega (arith, ints)
@@ -205,10 +179,10 @@ module _ (h : ℤ) (y z n : ℕ) (t : Triangle) where
   unfolding first-crossed
   none-crossed e =
       least-none n ∙ least-same (λ _. false) (λ k. crosses (at k) t) n
-      (λ k. sym (ap (λ b. b && leZ (pos 0) (plane (at k) t *ℤ turns)) (covers-row t (at k .x) (at 0 .x) (at 0 .y) (at 0 .z) ∙ e)))
+      (λ k. sym (ap (λ b. b && leZ (pos 0) (plane (at k) t *ℤ turns)) (covers-along t (at k .x) (at 0 .x) (at 0 .y) (at 0 .z) ∙ e)))
 
   crosses-at : covers (at 0) t ≡ true → (k : ℕ) → crosses (at k) t ≡ leZ (pos 0) (plane (at k) t *ℤ turns)
-  crosses-at e k = ap (λ b. b && leZ (pos 0) (plane (at k) t *ℤ turns)) (covers-row t (at k .x) (at 0 .x) (at 0 .y) (at 0 .z) ∙ e)
+  crosses-at e k = ap (λ b. b && leZ (pos 0) (plane (at k) t *ℤ turns)) (covers-along t (at k .x) (at 0 .x) (at 0 .y) (at 0 .z) ∙ e)
 
   pub crossed : covers (at 0) t ≡ true → (turns ≡ pos 0 → ⊥) → (start step : ℤ) → start ≡ sign turns *ℤ plane (at 0) t → step ≡ (h +ℤ h) *ℤ size turns
       → (r : ℕ) → r ≡ least (λ k. leZ (pos 0) (start +ℤ step *ℤ pos k)) n → r ≡ first-crossed h y z n t

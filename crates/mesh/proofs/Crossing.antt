@@ -15,6 +15,7 @@ use Rattle.algebra.proofs.Tests.{le-true, le-of, le-less, both, and-same, and-s
 use Rattle.geometry.specs.declared.mesh.Point.{Point}
 use Rattle.geometry.specs.declared.mesh.Triangle.{Triangle}
 use Rattle.geometry.specs.Geometry.{isZero, normal-of, edge, counts, covers, plane, crosses}
+use Rattle.geometry.proofs.Crossing.{covers-along}
 use Rattle.mesh.proofs.Exprs.{Zero}
 use Rattle.mesh.proofs.Signs.{nonzero-of}
 use Rattle.mesh.proofs.Turned.{rot, swap, three-sides, nx-swap, plane-swap}
@@ -50,11 +51,6 @@ pub covered-at-fraction : (t : Triangle) (X Y Z p q : ℤ) → pos 0 <ℤ q → 
     → crosses (record { x = X; y = Y; z = Z }) t ≡ leZ p (q *ℤ X)
 covered-at-fraction t X Y Z p q h c e =
     crosses-at-fraction t X Y Z p q h (nonzero-of (normal-of t .x) (and-split _ _ c .0)) e ∙ ap (λ x. x && leZ p (q *ℤ X)) c
-
--- to cover the row is the same at each of its points
-pub covers-along : (t : Triangle) (X X′ Y Z : ℤ) → covers (record { x = X; y = Y; z = Z }) t ≡ covers (record { x = X′; y = Y; z = Z }) t
-unfolding edge
-covers-along t X X′ Y Z = refl
 
 plane-along : (t : Triangle) (X X′ Y Z : ℤ)
     → plane (record { x = X; y = Y; z = Z }) t *ℤ normal-of t .x +ℤ (normal-of t .x *ℤ normal-of t .x) *ℤ (X′ -ℤ X)

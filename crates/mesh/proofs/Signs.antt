@@ -8,6 +8,7 @@ use lib.IntN.{ℤ, pos, negsuc, _-ℤ_, _*ℤ_}
 use lib.Signed.{_≤ℤ_, _<ℤ_}
 use Rattle.geometry.specs.Geometry.{isZero}
 use Rattle.geometry.specs.Cells.{sign, size}
+use Rattle.geometry.proofs.Signs.{sign-up, sign-down}
 
 -- ---- the test for 0
 
@@ -26,14 +27,8 @@ nonzero-of a e z = false≢true (ap (λ x. not (isZero x)) (sym z) ∙ e)
 
 -- ---- signs and sizes
 
-sign-neg : (a : ℤ) → a <ℤ pos 0 → sign a ≡ negsuc 0
-sign-neg a h = grind (arith, ints)
-
-sign-up : (a : ℤ) → pos 0 ≤ℤ a → sign a ≡ pos 1
-sign-up a h = grind (arith, ints)
-
 by-one : (P : ℤ → Type 0) (a : ℤ) → P (pos 1) → P (negsuc 0) → P (sign a)
-by-one P a p q = by-ltZ a (pos 0) (λ h. subst P (sym (sign-neg a h)) q) (λ h. subst P (sym (sign-up a h)) p)
+by-one P a p q = by-ltZ a (pos 0) (λ h. subst P (sym (sign-down a h)) q) (λ h. subst P (sym (sign-up a h)) p)
 
 pub sign-twice : (a : ℤ) → sign a *ℤ sign a ≡ pos 1
 sign-twice a = by-one (λ s. s *ℤ s ≡ pos 1) a refl refl
@@ -59,7 +54,7 @@ signed-least a d k p q = by-one (λ s. (pos 0 -ℤ s *ℤ d) ≤ℤ k) a (up d k
 pub size-most : (d k : ℤ) → size d ≤ℤ k → (d ≤ℤ k) × ((pos 0 -ℤ d) ≤ℤ k)
 size-most d k h =
     by-ltZ d (pos 0)
-    (λ n. down d k n (subst (λ s. (s *ℤ d) ≤ℤ k) (sign-neg d n) h))
+    (λ n. down d k n (subst (λ s. (s *ℤ d) ≤ℤ k) (sign-down d n) h))
     (λ p. up d k p (subst (λ s. (s *ℤ d) ≤ℤ k) (sign-up d p) h))
   where
     down : (d k : ℤ) → d <ℤ pos 0 → (negsuc 0 *ℤ d) ≤ℤ k → (d ≤ℤ k) × ((pos 0 -ℤ d) ≤ℤ k)
@@ -70,7 +65,7 @@ size-most d k h =
 pub size-some : (a : ℤ) → pos 0 ≤ℤ size a
 size-some a =
     by-ltZ a (pos 0)
-    (λ h. subst (λ s. pos 0 ≤ℤ (s *ℤ a)) (sym (sign-neg a h)) (down a h))
+    (λ h. subst (λ s. pos 0 ≤ℤ (s *ℤ a)) (sym (sign-down a h)) (down a h))
     (λ h. subst (λ s. pos 0 ≤ℤ (s *ℤ a)) (sym (sign-up a h)) (up a h))
   where
     down : (a : ℤ) → a <ℤ pos 0 → pos 0 ≤ℤ (negsuc 0 *ℤ a)
