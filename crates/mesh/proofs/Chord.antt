@@ -173,31 +173,31 @@ swap-first a b c d = ap (λ x. x ⊻ c ⊻ d) (xor-comm a b)
 swap-last : (a b c d : Bool) → (a ⊻ b ⊻ c ⊻ d) ≡ (a ⊻ b ⊻ d ⊻ c)
 swap-last a b c d = xor-assoc (a ⊻ b) c d ∙ ap (λ x. (a ⊻ b) ⊻ x) (xor-comm c d) ∙ sym (xor-assoc (a ⊻ b) d c)
 
-module _ (p1 p2 : ℤ) (K1 K2 Dn Df Cn Cf : Bool) (even : (K1 ⊻ K2 ⊻ Dn ⊻ Df) ≡ false) where
+module _ (p1 p2 : ℤ) (J1 J2 Dn Df Cn Cf : Bool) (even : (J1 ⊻ J2 ⊻ Dn ⊻ Df) ≡ false) where
   -- the chord passes the line p = 0 beyond the near edge: nothing is odd
   outside : (n1 n2 f1 f2 : ℤ) → p1 ≤ℤ pos 0 → pos 0 <ℤ p2 → turn p1 n1 p2 n2 <ℤ pos 0 → turn p1 f1 p2 f2 <ℤ pos 0
       → (n1 <ℤ pos 0 → f1 <ℤ pos 0) → (n2 <ℤ pos 0 → f2 <ℤ pos 0)
-      → (K1 ≡ true → pos 0 ≤ℤ n1) → (K2 ≡ true → pos 0 ≤ℤ n2)
+      → (J1 ≡ true → pos 0 ≤ℤ n1) → (J2 ≡ true → pos 0 ≤ℤ n2)
       → (Dn ≡ true → Hit p1 n1 p2 n2 Cn) → (Df ≡ true → Hit p1 f1 p2 f2 Cf)
-      → ((Dn && Cn) ⊻ (Df && Cf) ⊻ (K1 && leZ p1 (pos 0)) ⊻ (K2 && leZ p2 (pos 0))) ≡ false
-  outside n1 n2 f1 f2 a b un uf g1 g2 k1 k2 hn hf =
+      → ((Dn && Cn) ⊻ (Df && Cf) ⊻ (J1 && leZ p1 (pos 0)) ⊻ (J2 && leZ p2 (pos 0))) ≡ false
+  outside n1 n2 f1 f2 a b un uf g1 g2 j1 j2 hn hf =
       by-ltZ n1 (pos 0)
       (λ (low : n1 <ℤ pos 0).
           four
           (and-never Dn Cn (λ d. left p1 n1 p2 n2 Cn low un (hn d)))
           (and-never Df Cf (λ d. left p1 f1 p2 f2 Cf (g1 low) uf (hf d)))
-          (ap (λ k. k && leZ p1 (pos 0)) (never K1 (λ k. lt-not-le n1 (pos 0) low (k1 k))))
-          (and-never K2 _ (λ _. le-false p2 (pos 0) b)))
+          (ap (λ k. k && leZ p1 (pos 0)) (never J1 (λ k. lt-not-le n1 (pos 0) low (j1 k))))
+          (and-never J2 _ (λ _. le-false p2 (pos 0) b)))
       (λ (high : pos 0 ≤ℤ n1).
           let low : n2 <ℤ pos 0 = by-ltZ n2 (pos 0) (λ l. l) (λ n. absurd (lt-not-le _ _ un
               (turn-less _ (p2 *ℤ n1) (p1 *ℤ n2) refl (mul-nonneg p2 n1 (nonneg-of-pos p2 b) high) (nonpos-mul p1 n2 a n)))) in
-          let none = never K2 (λ k. lt-not-le n2 (pos 0) low (k2 k)) in
+          let none = never J2 (λ k. lt-not-le n2 (pos 0) low (j2 k)) in
           four
           (and-when Dn Cn (λ d. right p1 n1 p2 n2 Cn low un (hn d)))
           (and-when Df Cf (λ d. right p1 f1 p2 f2 Cf (g2 low) uf (hf d)))
-          (and-when K1 _ (λ _. le-true p1 (pos 0) a))
-          (and-never K2 _ (λ _. le-false p2 (pos 0) b) ∙ sym none)
-          ∙ pairs-swap K1 K2 Dn Df ∙ even)
+          (and-when J1 _ (λ _. le-true p1 (pos 0) a))
+          (and-never J2 _ (λ _. le-false p2 (pos 0) b) ∙ sym none)
+          ∙ pairs-swap J1 J2 Dn Df ∙ even)
 
 -- ---- the chord
 
@@ -263,12 +263,12 @@ module _ (q1 w1 q2 w2 h : ℤ) (strip : Strip w1 w2 h) where
   hw2 = mul-nonneg h w2 (strip .h-some) (nonneg-of-pos w2 (strip .w2-pos))
 
   -- the ends lie on either side of p = 0
-  straddle : (p1 p2 : ℤ) (K1 K2 D E C B : Bool) → (K1 ⊻ K2 ⊻ D ⊻ E) ≡ false → p1 ≤ℤ pos 0 → pos 0 <ℤ p2
-      → (K1 ≡ true → (pos 0 ≤ℤ q1) × (q1 ≤ℤ (h *ℤ w1))) → (K2 ≡ true → (pos 0 ≤ℤ q2) × (q2 ≤ℤ (h *ℤ w2)))
+  straddle : (p1 p2 : ℤ) (J1 J2 D E C B : Bool) → (J1 ⊻ J2 ⊻ D ⊻ E) ≡ false → p1 ≤ℤ pos 0 → pos 0 <ℤ p2
+      → (J1 ≡ true → (pos 0 ≤ℤ q1) × (q1 ≤ℤ (h *ℤ w1))) → (J2 ≡ true → (pos 0 ≤ℤ q2) × (q2 ≤ℤ (h *ℤ w2)))
       → (D ≡ true → Hit p1 q1 p2 q2 C) → (E ≡ true → Hit p1 over1 p2 over2 B)
-      → ((D && C) ⊻ (E && B) ⊻ (K1 && leZ p1 (pos 0)) ⊻ (K2 && leZ p2 (pos 0))) ≡ true
+      → ((D && C) ⊻ (E && B) ⊻ (J1 && leZ p1 (pos 0)) ⊻ (J2 && leZ p2 (pos 0))) ≡ true
       → Found p1 q1 w1 p2 q2 w2 h
-  straddle p1 p2 K1 K2 D E C B even a b k1 k2 hd he odd =
+  straddle p1 p2 J1 J2 D E C B even a b j1 j2 hd he odd =
       let Q = turn p1 q1 p2 q2 in
       let R = turn p1 over1 p2 over2 in
       let wide = width-pos p1 w1 p2 w2 a b (strip .w1-pos) (strip .w2-pos) in
@@ -276,8 +276,8 @@ module _ (q1 w1 q2 w2 h : ℤ) (strip : Strip w1 w2 h) where
       let rise = turn-up p1 q1 w1 p2 q2 w2 h in
       by-ltZ Q (pos 0)
       (λ (under : Q <ℤ pos 0). absurd (false≢true (
-          sym (outside p1 p2 K1 K2 D E C B even q1 q2 over1 over2 a b under (fall-more R Q _ rise under step)
-              (λ n. drop-neg q1 _ n hw1) (λ n. drop-neg q2 _ n hw2) (λ k. k1 k .0) (λ k. k2 k .0) hd he) ∙ odd)))
+          sym (outside p1 p2 J1 J2 D E C B even q1 q2 over1 over2 a b under (fall-more R Q _ rise under step)
+              (λ n. drop-neg q1 _ n hw1) (λ n. drop-neg q2 _ n hw2) (λ k. j1 k .0) (λ k. j2 k .0) hd he) ∙ odd)))
       (λ (low : pos 0 ≤ℤ Q).
           by-sign R
           (λ (top : R ≤ℤ pos 0). record {
@@ -289,52 +289,52 @@ module _ (q1 w1 q2 w2 h : ℤ) (strip : Strip w1 w2 h) where
                   (subst (λ x. Q ≤ℤ (h *ℤ x)) (sym (same-sum p1 w1 p2 w2)) (under-top R Q (h *ℤ turn p1 w1 p2 w2) rise top));
               turns = not-zero _ wide })
           (λ (over : pos 0 <ℤ R). absurd (false≢true (
-              sym (outside p1 p2 K1 K2 E D B C (swap-last K1 K2 E D ∙ even)
+              sym (outside p1 p2 J1 J2 E D B C (swap-last J1 J2 E D ∙ even)
                   (pos 0 -ℤ over1) (pos 0 -ℤ over2) (pos 0 -ℤ q1) (pos 0 -ℤ q2) a b
                   (fall-here _ R (turn-mirror p1 over1 p2 over2) over) (fall-back _ R Q _ (turn-mirror p1 q1 p2 q2) rise over step)
-                  (λ n. rise-neg q1 _ n hw1) (λ n. rise-neg q2 _ n hw2) (λ k. room q1 _ (k1 k .1)) (λ k. room q2 _ (k2 k .1))
+                  (λ n. rise-neg q1 _ n hw1) (λ n. rise-neg q2 _ n hw2) (λ k. room q1 _ (j1 k .1)) (λ k. room q2 _ (j2 k .1))
                   (λ e. mirror p1 over1 p2 over2 B (he e)) (λ d. mirror p1 q1 p2 q2 C (hd d)))
               ∙ swap-first (E && B) (D && C) _ _ ∙ odd))))
 
-module _ (p1 q1 w1 p2 q2 w2 h : ℤ) (strip : Strip w1 w2 h) (K1 K2 D E C B : Bool) (even : (K1 ⊻ K2 ⊻ D ⊻ E) ≡ false)
-    (k1 : K1 ≡ true → (pos 0 ≤ℤ q1) × (q1 ≤ℤ (h *ℤ w1))) (k2 : K2 ≡ true → (pos 0 ≤ℤ q2) × (q2 ≤ℤ (h *ℤ w2)))
+module _ (p1 q1 w1 p2 q2 w2 h : ℤ) (strip : Strip w1 w2 h) (J1 J2 D E C B : Bool) (even : (J1 ⊻ J2 ⊻ D ⊻ E) ≡ false)
+    (j1 : J1 ≡ true → (pos 0 ≤ℤ q1) × (q1 ≤ℤ (h *ℤ w1))) (j2 : J2 ≡ true → (pos 0 ≤ℤ q2) × (q2 ≤ℤ (h *ℤ w2)))
     (hd : D ≡ true → Hit p1 q1 p2 q2 C) (he : E ≡ true → Hit p1 (q1 -ℤ h *ℤ w1) p2 (q2 -ℤ h *ℤ w2) B) where
-  before : p1 ≤ℤ pos 0 → p2 ≤ℤ pos 0 → ((D && C) ⊻ (E && B) ⊻ (K1 && leZ p1 (pos 0)) ⊻ (K2 && leZ p2 (pos 0))) ≡ false
+  before : p1 ≤ℤ pos 0 → p2 ≤ℤ pos 0 → ((D && C) ⊻ (E && B) ⊻ (J1 && leZ p1 (pos 0)) ⊻ (J2 && leZ p2 (pos 0))) ≡ false
   before a b =
       four
       (and-when D C (λ d. all-before p1 q1 p2 q2 C a b (hd d)))
       (and-when E B (λ e. all-before p1 _ p2 _ B a b (he e)))
-      (and-when K1 _ (λ _. le-true p1 (pos 0) a)) (and-when K2 _ (λ _. le-true p2 (pos 0) b))
-      ∙ pairs-swap K1 K2 D E ∙ even
+      (and-when J1 _ (λ _. le-true p1 (pos 0) a)) (and-when J2 _ (λ _. le-true p2 (pos 0) b))
+      ∙ pairs-swap J1 J2 D E ∙ even
 
-  past : pos 0 <ℤ p1 → pos 0 <ℤ p2 → ((D && C) ⊻ (E && B) ⊻ (K1 && leZ p1 (pos 0)) ⊻ (K2 && leZ p2 (pos 0))) ≡ false
+  past : pos 0 <ℤ p1 → pos 0 <ℤ p2 → ((D && C) ⊻ (E && B) ⊻ (J1 && leZ p1 (pos 0)) ⊻ (J2 && leZ p2 (pos 0))) ≡ false
   past a b =
       four
       (and-never D C (λ d. all-past p1 q1 p2 q2 C a b (hd d)))
       (and-never E B (λ e. all-past p1 _ p2 _ B a b (he e)))
-      (and-never K1 _ (λ _. le-false p1 (pos 0) a)) (and-never K2 _ (λ _. le-false p2 (pos 0) b))
+      (and-never J1 _ (λ _. le-false p1 (pos 0) a)) (and-never J2 _ (λ _. le-false p2 (pos 0) b))
 
   -- nothing is odd where both ends lie on one side of p = 0
   pub chord-same : (leZ p1 (pos 0) ⊻ leZ p2 (pos 0)) ≡ false
-      → ((D && C) ⊻ (E && B) ⊻ (K1 && leZ p1 (pos 0)) ⊻ (K2 && leZ p2 (pos 0))) ≡ false
+      → ((D && C) ⊻ (E && B) ⊻ (J1 && leZ p1 (pos 0)) ⊻ (J2 && leZ p2 (pos 0))) ≡ false
   chord-same e =
       by-sign p1
       (λ a. by-sign p2 (before a) (λ b. absurd (true≢false (sym (xor-same (le-true p1 (pos 0) a) (le-false p2 (pos 0) b)) ∙ e))))
       (λ a. by-sign p2 (λ b. absurd (true≢false (sym (xor-same (le-false p1 (pos 0) a) (le-true p2 (pos 0) b)) ∙ e))) (past a))
 
   -- where the ends in the strip and the crossings of its edges are odd, the chord crosses the short edge
-  pub chord : ((D && C) ⊻ (E && B) ⊻ (K1 && leZ p1 (pos 0)) ⊻ (K2 && leZ p2 (pos 0))) ≡ true → Found p1 q1 w1 p2 q2 w2 h
+  pub chord : ((D && C) ⊻ (E && B) ⊻ (J1 && leZ p1 (pos 0)) ⊻ (J2 && leZ p2 (pos 0))) ≡ true → Found p1 q1 w1 p2 q2 w2 h
   chord odd =
       by-sign p1
       (λ (a : p1 ≤ℤ pos 0).
           by-sign p2
           (λ (b : p2 ≤ℤ pos 0). absurd (false≢true (sym (before a b) ∙ odd)))
-          (λ (b : pos 0 <ℤ p2). straddle q1 w1 q2 w2 h strip p1 p2 K1 K2 D E C B even a b k1 k2 hd he odd))
+          (λ (b : pos 0 <ℤ p2). straddle q1 w1 q2 w2 h strip p1 p2 J1 J2 D E C B even a b j1 j2 hd he odd))
       (λ (a : pos 0 <ℤ p1).
           by-sign p2
           (λ (b : p2 ≤ℤ pos 0). found-turned p1 q1 w1 p2 q2 w2 h (
               straddle q2 w2 q1 w1 h (record { w1-pos = strip .w2-pos; w2-pos = strip .w1-pos; h-some = strip .h-some })
-              p2 p1 K2 K1 D E C B (swap-first K2 K1 D E ∙ even) b a k2 k1
+              p2 p1 J2 J1 D E C B (swap-first J2 J1 D E ∙ even) b a j2 j1
               (λ d. turned p1 q1 p2 q2 C (hd d)) (λ e. turned p1 _ p2 _ B (he e))
               (swap-last (D && C) (E && B) _ _ ∙ odd)))
           (λ (b : pos 0 <ℤ p2). absurd (false≢true (sym (past a b) ∙ odd))))
