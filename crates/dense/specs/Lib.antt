@@ -1,0 +1,4 @@
+pub mod Cells
+pub mod Marks
+pub mod Board
+pub mod Laws
