@@ -1,3 +1,0 @@
-pub mod BitLaws
-pub mod ShownLaws
-pub mod BoardLaws

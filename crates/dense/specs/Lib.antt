@@ -1,4 +1,0 @@
-pub mod Cells
-pub mod Marks
-pub mod Board
-pub mod Laws

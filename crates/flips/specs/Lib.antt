@@ -1,3 +1,0 @@
-pub mod Flips
-pub mod Drawn
-pub mod Loans

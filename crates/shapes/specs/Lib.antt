@@ -1,4 +1,0 @@
-pub mod Entries
-pub mod Named
-pub mod ByNine
-pub mod Boxes

@@ -1,4 +1,0 @@
-pub mod Changes
-pub mod Shown
-pub mod Meaning
-pub mod Laws
