@@ -1,4 +1,5 @@
 //! The rows of a part: which cells of a row a list of triangles makes solid, and the runs of solid cells.
+#![tactic(auto)]
 
 ghost use Rattle.std.specs.Prelude.{◌≡◌, ℕ, ◌+◌, ◌<◌, ◌≤◌, Bool, true, false, not, List, length, get_or, nat_eq, slice_index_or};
 ghost use Rattle.algebra.specs.Parity.{◌⊻◌};
