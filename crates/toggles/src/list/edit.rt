@@ -52,7 +52,7 @@ impl<'a, K: Ord + Copy> Toggles<'a, K> {
         ensures room { room self.new ≡ room self.old }
         ensures grows { size self.new ≤ size self.old + 1 }
         ensures refused { result ≡ false → (size self.old ≡ room self.old) × (self.new ≡ self.old) }
-        ensures answered { Answered (λ x' y' r'. r' ≡ K.Ord.cmp x' y') (present self.old) (present self.new) (room self.old) key result }
+        ensures answered { Answered K.Ord.cmp (present self.old) (present self.new) (room self.old) key result }
         ensures keeps { (o : IsTotalOrder K.Ord.cmp) (ts : List K) → Keeps o (present self.old) ts → result ≡ true → Keeps o (present self.new) (key ∷ ts) }
     {
         match self.place(&key) {

@@ -1,8 +1,8 @@
 //! What a toggle list can be asked.
 ghost use Rattle.std.specs.Prelude.{◌≡◌, length, ◌==◌};
 ghost use Rattle.std.specs.List.{slice_get};
-ghost use Rattle.std.specs.BTreeMap.Search.{IsKeySearchResult};
 ghost use Rattle.toggles.specs.Present.{present, size};
+ghost use Rattle.toggles.specs.Search.{Place};
 ghost use Rattle.toggles.specs.Toggled.{Tells};
 
 use super::Toggles;
@@ -17,7 +17,7 @@ fn copy_at<K: Copy>(keys: &[K], i: usize) -> Option<K>
 
 /// Whether `key` is among `keys`, which rise.
 fn is_among<K: Ord>(keys: &[K], key: &K) -> bool
-    ensures { Tells (λ x' y' r'. r' ≡ K.Ord.cmp x' y') keys.now key.now result }
+    ensures { Tells K.Ord.cmp keys.now key.now result }
 {
     find_place(keys, key).is_ok()
 }
@@ -54,14 +54,14 @@ impl<'a, K: Ord + Copy> Toggles<'a, K> {
 
     /// Whether `key` is present.
     pub fn has(&self, key: &K) -> bool
-        ensures { Tells (λ x' y' r'. r' ≡ K.Ord.cmp x' y') (present self.now) key.now result }
+        ensures { Tells K.Ord.cmp (present self.now) key.now result }
     {
         is_among(self.present(), key)
     }
 
     /// The place of `key` among the keys present, or else the place at which it belongs.
     pub(super) fn place(&self, key: &K) -> Result<usize, usize>
-        ensures { IsKeySearchResult K.Ord.cmp (present self.now) key.now result }
+        ensures { Place K.Ord.cmp (present self.now) key.now result }
     {
         find_place(self.present(), key)
     }
