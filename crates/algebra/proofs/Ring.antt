@@ -1,10 +1,10 @@
 -- Equations between polynomials with integer coefficients, decided by computing: `ring ρ e f refl` proves that two expressions are
 -- equal at every value of their variables, once both have the same normal form.
-use Rattle.std.proofs.Common.{◌≡◌, ℕ, zero, suc, Bool, true, false, cond, eqb, ltb, leb, ◌⊎◌, List, [], ◌∷◌, ℤ, pos, negsuc, ◌+ℤ◌, ◌-ℤ◌, ◌*ℤ◌, neg_ℤ, sym, refl, ap, ◌∙◌, subst, inl, inr, arith, eqb-true}
+use Rattle.std.proofs.Common.{◌≡◌, ℕ, zero, suc, Bool, true, false, cond, eqb, ltb, leb, List, [], ◌∷◌, ℤ, pos, negsuc, ◌+ℤ◌, ◌-ℤ◌, ◌*ℤ◌, sym, refl, ap, ◌∙◌, arith, eqb-true}
 use mathlib.Core.Bool.{false≢true}
 use Rattle.std.proofs.lemmas.Int.{ints}
-use lib.IntN.{zero-*ℤ, *ℤ_comm, +ℤ_idl, +ℤ_idr, +ℤ_comm, +ℤ_assoc}
-use Rattle.algebra.proofs.IntRing.{add_mul, mul_add, neg_mul, mul_assoc}
+use lib.IntN.{zero-*ℤ, *ℤ_comm, +ℤ_idl, +ℤ_assoc}
+use Rattle.algebra.proofs.IntRing.{add_mul, mul_add, mul_assoc}
 
 infixl 6 ◌⊕◌ ◌⊖◌
 infixl 7 ◌⊗◌

@@ -1,5 +1,5 @@
 -- The numbers of cells and of runs, where they lie in a box of at most 64 cells along each axis.
-use Rattle.std.specs.Prelude.{◌≡◌, ℕ, ◌≤◌, Bool, true, false, ◌&&◌, Some, None, Option, nat_le}
+use Rattle.std.specs.Prelude.{◌≡◌, ℕ, true, false, ◌&&◌, Some, None, Option, nat_le}
 use Rattle.block.specs.Drawing.{number, in_box, in_row}
 
 -- the number k of the cell (x, y, z), or none where it lies outside or the box is too large

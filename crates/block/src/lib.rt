@@ -1,5 +1,6 @@
 //! A block: a box of cells, each solid or empty, stored in some way. What a block means is said once, here; the kinds of block show that
 //! they mean it, and everything above them is written for any block.
+#![tactic(auto)]
 
 ghost use Rattle.std.specs.Prelude.{◌≡◌, ℕ, ◌*◌, ◌≤◌, Bool, true, false, is_ok, if◌then◌else◌};
 ghost use Rattle.refusals.specs.BoxSides.{cells_of};

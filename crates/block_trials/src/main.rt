@@ -1,4 +1,5 @@
 //! Tries every kind of block on the same flips against a plain list of cells: what each call answers, and every cell after each flip.
+#![tactic(auto)]
 
 ghost use Rattle.std.specs.Prelude.{◌<◌, ◌≤◌};
 

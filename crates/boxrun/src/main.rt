@@ -1,4 +1,5 @@
 //! boxrun: reads a pattern text from standard input and prints which cells of the box its parts make solid.
+#![tactic(auto)]
 
 use report::{MOST_BYTES, report};
 use std::io::Read;

@@ -1,5 +1,6 @@
 //! castings: prints which cells of a box of side 2 some small castings make solid, thin and thick. A cell is told by its number,
 //! x + 2 y + 4 z.
+#![tactic(auto)]
 
 use geometry::{Cell, Facet, Point, Row};
 use rows::solid_row;

@@ -1,4 +1,5 @@
 //! Whether the sides of a list of triangles close: whether no two different points are joined by an odd number of them.
+#![tactic(auto)]
 
 pub mod check;
 pub mod sides;

@@ -1,4 +1,5 @@
 //! The dense board: a block that keeps a bit for each cell, in bytes that it is lent.
+#![tactic(auto)]
 
 ghost use Rattle.std.specs.Prelude.{◌≡◌, ℕ, ◌<◌, ◌≤◌, Bool, true, false, is_ok, if◌then◌else◌, Decides};
 ghost use Rattle.refusals.specs.BoxSides.{cells_of};

@@ -1,4 +1,5 @@
 //! Flipping a whole drawing into a block, from a source of rows: all of its flips are made, or none.
+#![tactic(auto)]
 
 ghost use Rattle.std.specs.Prelude.{◌≡◌, ℕ, ◌*◌, ◌<◌, ◌≤◌, Bool, true, false, length, is_ok, if◌then◌else◌, slice_index_or};
 ghost use Rattle.flips.specs.Runs.{LongestRuns};

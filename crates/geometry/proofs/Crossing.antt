@@ -1,17 +1,15 @@
 -- From the tests of the code to `counts` and `first_crossed`.
 use Rattle.std.proofs.Common.{◌≡◌, ℕ, zero, suc, ◌<◌, ◌≤◌, Bool, true, false, cond, not, ◌&&◌, eqb, [], ◌∷◌, ℤ, pos, negsuc, ◌+ℤ◌, ◌-ℤ◌, ◌*ℤ◌, nat_abs, ◌≤ℤ◌, ◌<ℤ◌, sym, refl, ap, ◌∙◌, subst, true≢false, arith, w32, SFits, of_z}
-use mathlib.Core.Bool.{beq}
 use Rattle.std.proofs.lemmas.Int.{ints, by_lt_z}
 use Rattle.std.specs.Int.{int_div_euclid}
-use lib.IntN.{*ℤ_comm}
 use lib.Signed.{lt_z, le_z}
 use Rattle.algebra.specs.Parity.{◌⊻◌}
 use Rattle.algebra.proofs.Ring.{var, num, ◌⊕◌, ◌⊖◌, ◌⊗◌, ring}
 use Rattle.algebra.proofs.Order.{gap, nonneg_of_pos, mul_pos, mul_nonneg, lt_scaled, nonneg_scaled}
-use Rattle.algebra.proofs.Tests.{le_true, le_false, le_of, same_test}
+use Rattle.algebra.proofs.Tests.{le_true, le_false}
 use Rattle.geometry.specs.declared.mesh.Point.{Point}
 use Rattle.geometry.specs.declared.mesh.Triangle.{Triangle}
-use Rattle.geometry.specs.Geometry.{is_zero, normal_of, edge, passes, ahead, counts, covers, plane, crosses}
+use Rattle.geometry.specs.Geometry.{is_zero, normal_of, edge, ahead, counts, covers, plane, crosses}
 use Rattle.geometry.specs.Cells.{cell_at, centre, middle, least, first_crossed, sign, size}
 use Rattle.geometry.specs.Read.{◌·◌, Floor, flat_edge}
 use Rattle.geometry.proofs.Signs.{inner_up, inner_down, size_is}

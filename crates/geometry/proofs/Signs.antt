@@ -1,10 +1,9 @@
 -- What the sign of a number does in a test.
-use Rattle.std.proofs.Common.{◌≡◌, ℕ, zero, suc, ◌*◌, Bool, true, false, cond, not, ◌||◌, eqb, leb, ℤ, pos, negsuc, ◌-ℤ◌, ◌*ℤ◌, nat_abs, ◌≤ℤ◌, ◌<ℤ◌, sym, refl, ap, ◌∙◌, arith, w32, SFits, of_z}
+use Rattle.std.proofs.Common.{◌≡◌, ℕ, ◌*◌, cond, ◌||◌, leb, ℤ, pos, negsuc, ◌-ℤ◌, ◌*ℤ◌, nat_abs, ◌≤ℤ◌, ◌<ℤ◌, sym, ap, ◌∙◌, arith}
 use Rattle.std.specs.Int.{int_min, int_max}
 use Rattle.std.proofs.lemmas.Int.{ints, by_lt_z}
-use lib.Signed.{lt_z, le_z}
+use lib.Signed.{le_z}
 use Rattle.algebra.proofs.Tests.{le_true, le_false}
-use Rattle.geometry.specs.Geometry.{is_zero}
 use Rattle.geometry.specs.Cells.{sign, size}
 
 pub sign_up : (a : ℤ) → pos 0 ≤ℤ a → sign a ≡ pos 1

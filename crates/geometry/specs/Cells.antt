@@ -1,6 +1,6 @@
 -- The cells of the grid against triangles. A cell k is given by three whole numbers, as a point is; h is half a cell's width, so that
 -- the cell is the closed box from 2h·k to 2h·k + 2h on each axis.
-use Rattle.std.specs.Prelude.{ℕ, zero, suc, Bool, true, false, cond, not, ◌&&◌, ◌||◌, ℤ, pos, negsuc, ◌+ℤ◌, ◌-ℤ◌, ◌*ℤ◌, int_le}
+use Rattle.std.specs.Prelude.{ℕ, zero, suc, Bool, cond, not, ◌&&◌, ◌||◌, ℤ, pos, negsuc, ◌+ℤ◌, ◌*ℤ◌, int_le}
 use Rattle.geometry.specs.declared.mesh.Point.{Point}
 use Rattle.geometry.specs.declared.mesh.Triangle.{Triangle}
 use Rattle.geometry.specs.Geometry.{is_zero, normal_of, edge, plane, crosses}

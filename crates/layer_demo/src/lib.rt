@@ -1,4 +1,5 @@
 //! A layer over any block, which is a block itself, and a function over any block that is used with and without it.
+#![tactic(auto)]
 
 ghost use Rattle.std.specs.Prelude.{◌≡◌, ◌+◌, ◌-◌, ◌^◌, min, is_ok, if◌then◌else◌};
 ghost use Rattle.refusals.specs.BoxSides.{cells_of};

@@ -1,1 +1,2 @@
 // The laws of meshes of triangles, for the proofs of the other crates: it has lemmas and no code.
+#![tactic(auto)]

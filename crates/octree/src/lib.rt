@@ -1,5 +1,6 @@
 //! The octree: a block that keeps its cells as a tree of regions, in groups that it is lent. A region that is all empty or all solid takes
 //! no group, and neither does a single cell; every other region takes one.
+#![tactic(auto)]
 
 ghost use Rattle.std.specs.Prelude.{◌≡◌, true, length};
 ghost use Rattle.refusals.specs.BoxSides.{cells_of};

@@ -1,4 +1,5 @@
 //! The reader of pattern text: a box's side and the parts that are laid in it, each a list of points and a list of faces.
+#![tactic(auto)]
 
 pub mod line;
 pub mod reader;

@@ -1,4 +1,5 @@
 //! The sixteen refusals, and the side of the box.
+#![tactic(auto)]
 
 ghost use Rattle.std.specs.Prelude.{◌≡◌};
 ghost use Rattle.refusals.specs.Refusals.{number, layer, place, odd_side, word};

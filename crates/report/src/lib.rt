@@ -1,4 +1,5 @@
 //! What boxrun prints for a pattern text.
+#![tactic(auto)]
 
 ghost use Rattle.std.specs.Prelude.{◌≡◌, ◌<◌, ◌≤◌, length, IfOk, string_bytes, codes};
 

@@ -1,4 +1,5 @@
 //! The report on pattern texts, byte for byte.
+#![tactic(auto)]
 
 #[cfg(test)]
 mod bytes;

@@ -1,5 +1,5 @@
 -- The entry of a number, in the lists of the kinds of shape.
-use Rattle.std.proofs.Common.{◌≡◌, ℕ, zero, suc, ◌+◌, ◌*◌, ◌/◌, ◌%◌, ◌<◌, ◌≤◌, List, [], ◌∷◌, map, length, get_or, ℤ, pos, sym, refl, ap, ◌∙◌, arith}
+use Rattle.std.proofs.Common.{◌≡◌, ℕ, zero, suc, ◌+◌, ◌*◌, ◌/◌, ◌%◌, ◌<◌, ◌≤◌, List, [], ◌∷◌, map, length, get_or, ℤ, pos, refl, ap, ◌∙◌, arith}
 use Rattle.shapes.specs.declared.entry.Entry.{Entry}
 use Rattle.shapes.specs.declared.entry.Entry.TheVariants.{Face, Hole}
 use Rattle.shapes.specs.Entries.{entry_at}

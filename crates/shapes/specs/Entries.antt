@@ -1,7 +1,7 @@
 -- The entries of a shape.
 use Rattle.std.specs.Prelude.{ℕ, zero, suc, List, [], ◌∷◌}
 use Rattle.shapes.specs.declared.entry.Entry.{Entry}
-use Rattle.shapes.specs.declared.entry.Entry.TheVariants.{Face, Hole}
+use Rattle.shapes.specs.declared.entry.Entry.TheVariants.{Hole}
 
 -- the entry of a number, counted from 0, and past the end a hole
 abbrev pub entry_at : List Entry → ℕ → Entry

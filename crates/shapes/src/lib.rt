@@ -1,4 +1,5 @@
 //! Shapes: lists of triangles, given in some way. What a shape means is said once, here; the kinds of shape show that they mean it.
+#![tactic(auto)]
 
 ghost use Rattle.std.specs.Prelude.{◌≡◌, List, length};
 ghost use Rattle.shapes.specs.declared.entry.Entry.{Entry as AnEntry};

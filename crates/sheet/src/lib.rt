@@ -1,4 +1,5 @@
 //! The sheet of a job: a line for each part that was laid, at most sixteen.
+#![tactic(auto)]
 
 pub mod lines;
 

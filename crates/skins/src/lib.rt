@@ -1,4 +1,5 @@
 //! The skins of a list of triangles: the cells that they make thick, or thin, marked on a board.
+#![tactic(auto)]
 
 ghost use Rattle.std.specs.Prelude.{◌≡◌, ℕ, ◌<◌, ◌≤◌, Bool, true, ◌&&◌, map, ◌==◌};
 ghost use Rattle.block.specs.Drawing.{in_box};

@@ -1,5 +1,6 @@
 //! The span block: a block that keeps the change places of its drawing, the numbers of the cells that differ from the cell before them, in
 //! places that it is lent.
+#![tactic(auto)]
 
 ghost use Rattle.std.specs.Prelude.{◌≡◌, ◌<◌, ◌≤◌, [], length, if◌then◌else◌};
 ghost use Rattle.refusals.specs.BoxSides.{cells_of};

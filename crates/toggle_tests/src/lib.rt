@@ -1,4 +1,5 @@
 //! The toggle list and the check of sides, on small examples.
+#![tactic(auto)]
 
 #[cfg(test)]
 mod numbers;

@@ -9,12 +9,12 @@ returns c =
     let b = c.args.self.now in
     let n = b.edge in
     let bs = b.cells.now in
-    let cs = c.turn-run.new.cells in
+    let cs = c.turn_run.new.cells in
     let many = c.requires.room in
-    let len = c.turn-run.auto.cells in
+    let len = c.turn_run.auto.cells in
     let low : c.args.hi ≤ 8 * bytes_for n = omega (arith, cube_eights n c.requires.sound) in
     record {
-      same-loans = record { same_edge = refl; same_loan = refl; same_length = len; same_spare = spare_same n bs cs many len (c.turn-run.ensures.rest (bytes_for n) low) };
+      same_loans = record { same_edge = refl; same_loan = refl; same_length = len; same_spare = spare_same n bs cs many len (c.turn_run.ensures.rest (bytes_for n) low) };
       same_fits = room_same n bs cs len;
-      drawn = shown_turned n bs cs c.args.lo c.args.hi many len c.requires.within.1 c.turn-run.ensures.cells;
+      drawn = shown_turned n bs cs c.args.lo c.args.hi many len c.requires.within.1 c.turn_run.ensures.cells;
     }

@@ -6,7 +6,7 @@ use Rattle.dense.proofs.Dense.has_room.Goals as goal
 pub returns : goal.returns
 returns c =
     let b = c.args.self.now in
-    let same = c.is-enough.ensures in
+    let same = c.is_enough.ensures in
     record {
       bytes = same;
       all = Decides-at _ _ same (enough_decides b.edge b.cells.now c.requires);

@@ -4,12 +4,12 @@ use Rattle.dense.specs.Laws.{short_shown}
 use Rattle.dense.proofs.ShownLaws.{shown_in}
 use Rattle.dense.proofs.Dense.is_solid.Goals as goal
 
-pub returns-then-has-room : goal.returns-then-has-room
-returns-then-has-room c =
+pub returns-then-has_room : goal.returns-then-has_room
+returns-then-has_room c =
     let b = c.args.self.now in
-    c.is-set.ensures ∙ sym (shown_in b.edge b.cells.now c.args.k (sym {b = enough b.edge b.cells.now} c.if-has-room.ensures.bytes) c.requires.1)
+    c.is_set.ensures ∙ sym (shown_in b.edge b.cells.now c.args.k (sym {b = enough b.edge b.cells.now} c.if-has_room.ensures.bytes) c.requires.1)
 
-pub returns-else-has-room : goal.returns-else-has-room
-returns-else-has-room c =
+pub returns-else-has_room : goal.returns-else-has_room
+returns-else-has_room c =
     let b = c.args.self.now in
-    c.if-has-room.false ∙ sym (short_shown b.edge b.cells.now (sym {b = enough b.edge b.cells.now} c.if-has-room.ensures.bytes) c.args.k)
+    c.if-has_room.false ∙ sym (short_shown b.edge b.cells.now (sym {b = enough b.edge b.cells.now} c.if-has_room.ensures.bytes) c.args.k)

@@ -6,6 +6,6 @@ pub returns : goal.returns
 returns c =
     let b = c.args.self.now in
     record {
-      fits = c.has-room.ensures.bytes ∙ fits_marked b.edge b.cells.now c.args.k c.requires.1;
-      bytes = c.has-room.ensures.bytes;
+      fits = c.has_room.ensures.bytes ∙ fits_marked b.edge b.cells.now c.args.k c.requires.1;
+      bytes = c.has_room.ensures.bytes;
     }

@@ -6,6 +6,6 @@ pub returns : goal.returns
 returns c =
     let b = c.args.self.now in
     record {
-      fits = c.has-room.ensures.bytes ∙ fits_turned b.edge b.cells.now c.args.lo c.args.hi c.requires.1.0 c.requires.1.1;
-      bytes = c.has-room.ensures.bytes;
+      fits = c.has_room.ensures.bytes ∙ fits_turned b.edge b.cells.now c.args.lo c.args.hi c.requires.1.0 c.requires.1.1;
+      bytes = c.has_room.ensures.bytes;
     }

@@ -14,9 +14,9 @@ loop-k-preserved c =
     let bs = c.loop-k.cells in
     let within : k < 8 * length bs = omega arith in
     let up : k ≤ k + 1 = omega arith in (
-      ap cell_in c.turn-cell.ensures
+      ap cell_in c.turn_cell.ensures
           ∙ cells_turned bs k within
           ∙ ap (λ (d : ℕ → Bool). turned d k (k + 1)) c.loop-k.invariant.0
           ∙ turned_joins (cell_in c.args.cells.now) c.args.lo k (k + 1) c.loop-k.auto.k up,
-      λ m h. let low : k / 8 < m = omega arith in ap (drop m) c.turn-cell.ensures ∙ drop-set-lt m bs (k / 8) _ low ∙ c.loop-k.invariant.1 m h,
+      λ m h. let low : k / 8 < m = omega arith in ap (drop m) c.turn_cell.ensures ∙ drop-set-lt m bs (k / 8) _ low ∙ c.loop-k.invariant.1 m h,
     )

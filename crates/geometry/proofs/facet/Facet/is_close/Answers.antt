@@ -1,5 +1,5 @@
 use Rattle.std.proofs.Common.{nat_abs, ap, arith}
-use Rattle.std.proofs.lemmas.Int.{ints, to_z-of_z}
+use Rattle.std.proofs.lemmas.Int.{to_z-of_z}
 use Rattle.geometry.specs.Geometry.{plane, normal_of}
 use Rattle.geometry.specs.Read.{along, half, point_of, triangle_of}
 use Rattle.geometry.proofs.Signs.{close_is}

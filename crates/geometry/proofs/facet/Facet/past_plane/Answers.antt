@@ -1,8 +1,8 @@
-use Rattle.std.proofs.Common.{◌≡◌, sym, ap, ◌∙◌, arith}
-use Rattle.std.proofs.lemmas.Int.{ints, to_z-of_z}
+use Rattle.std.proofs.Common.{ap, arith}
+use Rattle.std.proofs.lemmas.Int.{to_z-of_z}
 use Rattle.geometry.specs.Geometry.{normal_of}
 use Rattle.geometry.specs.Read.{triangle_of}
-use Rattle.geometry.proofs.Signs.{sign_up, sign_down, minus}
+use Rattle.geometry.proofs.Signs.{sign_down, minus}
 use Rattle.geometry.proofs.facet.Facet.past_plane.Goals as goal
 
 pub returns-else-self-ge0 : goal.returns-else-self-ge0

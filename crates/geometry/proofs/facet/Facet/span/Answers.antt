@@ -10,11 +10,11 @@ returns c =
     let f = c.args.self.now in
     let a = along c.args.axis in
     record {
-      within = c.first-behind.ensures.within;
+      within = c.first_behind.ensures.within;
       met = λ k h.
           let l = least_below (a (point_of f.v0)) (a (point_of f.v1)) (a (point_of f.v2)) (high half (pos k)) in
           let g = greatest_above (a (point_of f.v0)) (a (point_of f.v1)) (a (point_of f.v2)) (low half (pos k)) in
-          let from = c.first-reaching.ensures k h in
-          let up_to_lem = c.first-behind.ensures.before k h in
+          let from = c.first_reaching.ensures k h in
+          let up_to_lem = c.first_behind.ensures.before k h in
           grind (arith, to_z-of_z);
     }

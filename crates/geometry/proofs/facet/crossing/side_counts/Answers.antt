@@ -1,5 +1,5 @@
-use Rattle.std.proofs.Common.{sym, ap, ◌∙◌, arith}
-use Rattle.std.proofs.lemmas.Int.{ints, to_z-of_z}
+use Rattle.std.proofs.Common.{sym, arith}
+use Rattle.std.proofs.lemmas.Int.{to_z-of_z}
 use Rattle.geometry.specs.Read.{point_of}
 use Rattle.geometry.proofs.Crossing.{edge_is, level, upward, downward}
 use Rattle.geometry.proofs.facet.crossing.side_counts.Goals as goal

@@ -1,10 +1,10 @@
-use Rattle.std.proofs.Common.{◌≡◌, ◌<◌, length, refl, arith, length-take}
+use Rattle.std.proofs.Common.{◌<◌, length, refl, arith, length-take}
 use Rattle.std.proofs.lemmas.List.{take_more_set}
 use Rattle.sheet.specs.Sheets.{line}
 use Rattle.sheet.proofs.lines.Sheet.add.Goals as goal
 
-pub returns-then-self-ge-MOST-LINES : goal.returns-then-self-ge-MOST-LINES
-returns-then-self-ge-MOST-LINES c = (simp length-take (omega arith), refl, refl)
+pub returns-then-self-ge-MOST_LINES : goal.returns-then-self-ge-MOST_LINES
+returns-then-self-ge-MOST_LINES c = (simp length-take (omega arith), refl, refl)
 
 pub returns : goal.returns
 returns c =

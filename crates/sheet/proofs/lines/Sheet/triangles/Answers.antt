@@ -4,4 +4,4 @@ use Rattle.sheet.specs.Sheets.{total}
 use Rattle.sheet.proofs.lines.Sheet.triangles.Goals as goal
 
 pub returns : goal.returns
-returns c = c.triangles-of.ensures ∙ ap (λ n. total (take n c.args.self.now.lines)) (sub-zero c.args.self.now.used)
+returns c = c.triangles_of.ensures ∙ ap (λ n. total (take n c.args.self.now.lines)) (sub-zero c.args.self.now.used)
