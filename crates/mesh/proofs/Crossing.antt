@@ -11,7 +11,7 @@ use Rattle.algebra.proofs.Parity.{xor_assoc, xor_comm, xor_same}
 use Rattle.algebra.proofs.Tests.{le_true, le_of, le_less, both, and_same, and_split, never}
 use Rattle.geometry.specs.declared.mesh.Point.{Point}
 use Rattle.geometry.specs.declared.mesh.Triangle.{Triangle}
-use Rattle.geometry.specs.Geometry.{is_zero, normal_of, edge, counts, covers, plane, crosses}
+use Rattle.geometry.specs.Geometry.{is_zero, normal_of, counts, covers, plane, crosses}
 use Rattle.geometry.proofs.Crossing.{covers_along}
 use Rattle.mesh.proofs.Exprs.{Zero}
 use Rattle.mesh.proofs.Signs.{nonzero_of}

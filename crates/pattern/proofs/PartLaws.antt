@@ -1,13 +1,13 @@
 -- The next part, step by step: the side, the part line, then the points and faces.
-use Rattle.std.proofs.Common.{◌≡◌, ℕ, true, false, List, [], ◌∷◌, length, Some, None, Ok, Err, Option, Result, sym, refl, ap, ◌∙◌, subst}
+use Rattle.std.proofs.Common.{◌≡◌, ℕ, List, [], length, Some, None, Ok, Err, Option, Result, sym, refl, ap, ◌∙◌, subst}
 use Rattle.geometry.specs.declared.mesh.Point.{Point}
 use Rattle.geometry.specs.declared.mesh.Face.{Face}
 use Rattle.refusals.specs.declared.Refusal.{Refusal}
 use Rattle.refusals.specs.declared.box_side.BoxSide.{BoxSide}
 use Rattle.pattern.specs.declared.reader.Reader.{Reader}
 use Rattle.pattern.specs.declared.reader.Counts.{Counts}
-use Rattle.pattern.specs.Pattern.{Stand, End, no_part, over, fault, Outcome, ends, settled, body, part_from, next_part, answer, Stays, written}
-use Rattle.pattern.specs.Read.{Sided, Begun, BodyRead, stand_of}
+use Rattle.pattern.specs.Pattern.{Stand, End, no_part, over, fault, Outcome, ends, settled, part_from, next_part, answer, Stays, written}
+use Rattle.pattern.specs.Read.{Sided, stand_of}
 
 module _ (p f : ℕ) where
   -- the side is read

@@ -1,5 +1,5 @@
 -- What a pattern text means, read from where a reader stands: the side, then one part after the other, or the first fault.
-use Rattle.std.specs.Prelude.{◌≡◌, ℕ, ◌-◌, Bool, true, false, cond, ◌&&◌, List, [], ◌∷◌, ◌++◌, length, drop, ℤ, is_some, Some, None, Ok, Err, Option, Result, ◌==◌, unsigned_abs}
+use Rattle.std.specs.Prelude.{◌≡◌, ℕ, ◌-◌, Bool, cond, ◌&&◌, List, [], ◌∷◌, ◌++◌, length, drop, is_some, Some, None, Ok, Err, Option, Result, ◌==◌, unsigned_abs}
 use Rattle.geometry.specs.declared.mesh.Point.{Point}
 use Rattle.geometry.specs.declared.mesh.Face.{Face}
 use Rattle.refusals.specs.declared.Refusal.{Refusal}
@@ -11,7 +11,7 @@ use Rattle.pattern.specs.declared.state.Kind.{Kind}
 use Rattle.pattern.specs.declared.state.Kind.TheVariants.{Side as KindSide, Part as KindPart, Point as KindPoint, Face as KindFace}
 use Rattle.pattern.specs.declared.reader.Counts.{Counts}
 use Rattle.pattern.specs.Text.{lines, is_number, value}
-use Rattle.pattern.specs.Lines.{Said, nothing, side_line, part_line, part_and_more, point_line, face_line, stray, Spoken, spoken}
+use Rattle.pattern.specs.Lines.{nothing, side_line, part_line, part_and_more, point_line, face_line, stray, Spoken, spoken}
 use Rattle.pattern.specs.States.{next}
 
 -- where a reader stands: the state, the side once it is read, and the lines that are left

@@ -11,7 +11,7 @@ use Rattle.pattern.specs.declared.line.Line.{Line}
 use Rattle.pattern.specs.declared.line.Line.TheVariants.{Skip, Side, Part, PartAndMore, Point, Face, Stray}
 use Rattle.pattern.specs.declared.reader.Reader.{Reader}
 use Rattle.pattern.specs.Text.{is_number, lines, value, words}
-use Rattle.pattern.specs.Lines.{Said, nothing, side_line, part_line, part_and_more, point_line, face_line, stray, Spoken, spoken, side_of, three_of}
+use Rattle.pattern.specs.Lines.{Said, nothing, side_line, part_line, part_and_more, point_line, face_line, stray, spoken, side_of, three_of}
 use Rattle.pattern.specs.declared.reader.Counts.{Counts}
 use Rattle.pattern.specs.declared.state.State.{State}
 use Rattle.pattern.specs.declared.state.State.TheVariants.{Ready}

@@ -1,8 +1,8 @@
 -- Counting by odd and even.
-use Rattle.std.proofs.Common.{◌≡◌, ℕ, zero, suc, ◌+◌, ◌<◌, ◌≤◌, Bool, true, false, not, eqb, ltb, leb, List, [], ◌∷◌, ◌++◌, length, get_or, take, sym, refl, ap, ◌∙◌, arith}
+use Rattle.std.proofs.Common.{◌≡◌, ℕ, ◌+◌, ◌<◌, Bool, false, List, [], ◌∷◌, ◌++◌, length, get_or, take, sym, refl, ap, ◌∙◌}
 use Rattle.std.proofs.lemmas.List.{take_more}
 use Rattle.algebra.specs.Parity.{◌⊻◌}
-use Rattle.algebra.proofs.Parity.{xor_assoc, xor_comm, xor_left, xor_false}
+use Rattle.algebra.proofs.Parity.{xor_assoc, xor_left, xor_false}
 use Rattle.rows.specs.Rows.{odd}
 
 module _ {A : Type 0} (p : A → Bool) where
@@ -22,7 +22,7 @@ odd_both p q r e (x ∷ xs) =
     ∙ mix (p x) (q x) (odd p xs) (odd q xs)
   where
     mix : (a b c d : Bool) → ((a ⊻ b) ⊻ (c ⊻ d)) ≡ ((a ⊻ c) ⊻ (b ⊻ d))
-    mix a b c d = simp (xor_assoc, xor_comm, xor_left)
+    mix a b c d = simp (xor_assoc, xor_left)
 
 pub odd_same : {A : Type 0} (p q : A → Bool) → ((x : A) → p x ≡ q x) → (xs : List A) → odd p xs ≡ odd q xs
 odd_same p q e [] = refl

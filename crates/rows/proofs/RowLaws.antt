@@ -1,19 +1,19 @@
 -- From first crossed cells to the cells of a row.
-use Rattle.std.proofs.Common.{◌≡◌, ℕ, zero, suc, ◌+◌, ◌<◌, ◌≤◌, Bool, true, false, cond, not, eqb, leb, List, [], ◌∷◌, map, length, get_or, take, set, pos, ◌≤ℤ◌, sym, refl, ap, ◌∙◌, subst, ⊎_elim, add-one, arith}
+use Rattle.std.proofs.Common.{◌≡◌, ℕ, zero, suc, ◌+◌, ◌<◌, ◌≤◌, Bool, true, false, not, eqb, leb, List, [], ◌∷◌, map, length, get_or, take, set, pos, sym, refl, ap, ◌∙◌, ⊎_elim, add-one, arith}
 use mathlib.Core.Bool.{beq}
-use Rattle.std.proofs.lemmas.List.{get_or-set_same, get_or-set_other, take_all}
+use Rattle.std.proofs.lemmas.List.{get_or-set_same, get_or-set_other}
 use Rattle.std.proofs.lemmas.Int.{ints}
 use Rattle.std.proofs.lemmas.Bool.{cases_Bool, eqb-true, eqb-false}
 use Rattle.algebra.specs.Parity.{◌⊻◌}
 use Rattle.geometry.specs.declared.facet.Facet.{Facet}
 use Rattle.geometry.specs.declared.mesh.Triangle.{Triangle}
 use Rattle.geometry.specs.Geometry.{crosses, inside}
-use Rattle.geometry.specs.Cells.{cell_at, centre, least, first_crossed, middle}
+use Rattle.geometry.specs.Cells.{cell_at, centre, first_crossed, middle}
 use Rattle.geometry.proofs.Least.{least_on}
 use Rattle.geometry.specs.Read.{half, triangle_of}
 use Rattle.mesh.proofs.Crossing.{crossing_begins}
 use Rattle.rows.specs.Rows.{first_at, odd, odd_first}
-use Rattle.rows.proofs.Odd.{odd_more, odd_both, odd_same, odd_none}
+use Rattle.rows.proofs.Odd.{odd_more, odd_both, odd_same}
 
 -- ---- the first crossed cells are marked
 

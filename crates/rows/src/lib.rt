@@ -1,7 +1,7 @@
 //! The rows of a part: which cells of a row a list of triangles makes solid, and the runs of solid cells.
 #![tactic(auto)]
 
-ghost use Rattle.std.specs.Prelude.{◌≡◌, ℕ, ◌+◌, ◌<◌, ◌≤◌, Bool, true, false, not, List, length, get_or, nat_eq, slice_index_or};
+ghost use Rattle.std.specs.Prelude.{◌≡◌, ℕ, ◌+◌, ◌<◌, ◌≤◌, Bool, true, false, not, List, length, nat_eq, slice_index_or};
 ghost use Rattle.algebra.specs.Parity.{◌⊻◌};
 ghost use Rattle.geometry.specs.Read.{half, triangle_of};
 ghost use Rattle.rows.specs.Rows.{AllAre, FirstRun, RowOf, first_at, odd, odd_first};
@@ -10,7 +10,7 @@ use geometry::{Facet, Row};
 
 /// Changes the cell at a place, if there is one.
 fn change(cells: &mut [bool], place: usize)
-    ensures { (x : ℕ) → x < length cells.old → slice_index_or cells.new x false ≡ (get_or cells.old x false ⊻ nat_eq place x) }
+    ensures { (x : ℕ) → x < length cells.old → slice_index_or cells.new x false ≡ (slice_index_or cells.old x false ⊻ nat_eq place x) }
 {
     if place < cells.len() {
         cells[place] = !cells[place];

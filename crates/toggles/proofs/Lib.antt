@@ -1,3 +1,4 @@
+pub mod Rising
 pub mod Shifted
 pub mod Sizes
 pub mod Toggling

@@ -1,15 +1,14 @@
 -- A key put in where it belongs among rising keys, or taken out where it stands, is toggled there.
-use Rattle.std.proofs.Common.{◌≡◌, ℕ, zero, suc, ◌<◌, ◌≤◌, Bool, true, false, cond, not, ◌||◌, ltb, List, [], ◌∷◌, length, get_or, drop, is_ok, Ok, Err, MatchBool, Result, Ordering, Equal, sym, refl, ap, ◌∙◌, subst}
+use Rattle.std.proofs.Common.{◌≡◌, ℕ, zero, suc, ◌<◌, ◌≤◌, Bool, true, false, cond, not, ◌||◌, ltb, List, [], ◌∷◌, length, take, drop, is_ok, Ok, Err, MatchBool, Result, Ordering, Less, Greater, sym, refl, ap, ◌∙◌, subst}
 use mathlib.Core.Bool.{false≢true}
-use Rattle.std.specs.List.{insert, remove}
+use Rattle.std.specs.List.{AllByRecursion, insert, remove}
 use Rattle.std.specs.Cmp.{IsTotalOrder}
 use Rattle.std.specs.Ordering.{eq_by_cmp}
 use Rattle.std.specs.List.Sorted.{IsStrictlySortedBy}
-use Rattle.std.specs.BTreeMap.Search.{IsKeySearchResult}
-use Rattle.std.proofs.Lookup.{Missing, Hit}
-use Rattle.std.proofs.SortedKeys.{tied-flip, tied-alike, before, after, missing, hit, sorted-put, sorted-cut, sorted_none}
+use Rattle.std.proofs.lemmas.Cmp.{eq_by_cmp_equiv}
 use Rattle.std.proofs.lemmas.Bool.{lt-ltb, le-ltb}
-use Rattle.toggles.specs.Search.{Stands}
+use Rattle.toggles.specs.Search.{Place, Stands}
+use Rattle.toggles.proofs.Rising.{Missing, Hit, before, after, missing, hit, sorted_put, sorted_cut, sorted_none}
 use Rattle.toggles.specs.Toggled.{has, PutIn, TakenOut, Toggled, Answered, Keeps}
 
 -- ---- tests
@@ -82,56 +81,71 @@ module _ {K : Type 0} (e : K → K → Bool) where
 -- ---- where a search for k ended
 
 module _ {K : Type 0} {R : K → K → Ordering} (o : IsTotalOrder R) (k : K) (ks : List K) (s : IsStrictlySortedBy R ks) where
-  new_key : (i : ℕ) → IsKeySearchResult R ks k (Err i) → has (eq_by_cmp R) ks k ≡ false
-  new_key i p = has_missing (eq_by_cmp R) k ks (missing o k ks i s p.0 p.1 p.2)
+  lesser : (i : ℕ) → Place R ks k (Err i) → AllByRecursion (λ y. R k y ≡ Greater) (take i ks)
+  lesser i p = before o k ks i s p.0 p.1
 
-  old_key : (i : ℕ) → IsKeySearchResult R ks k (Ok i) → has (eq_by_cmp R) ks k ≡ true
+  greater : (i : ℕ) → Place R ks k (Err i) → AllByRecursion (λ y. R k y ≡ Less) (drop i ks)
+  greater i p = after o k ks i s p.2
+
+  none_tied : (i : ℕ) → Place R ks k (Err i) → Missing (eq_by_cmp R) k ks
+  none_tied i p = missing o k ks i (lesser i p) (greater i p)
+
+  new_key : (i : ℕ) → Place R ks k (Err i) → has (eq_by_cmp R) ks k ≡ false
+  new_key i p = has_missing (eq_by_cmp R) k ks (none_tied i p)
+
+  old_key : (i : ℕ) → Place R ks k (Ok i) → has (eq_by_cmp R) ks k ≡ true
   old_key i p = has_hit (eq_by_cmp R) k ks i (hit o k ks i s p.0 p.1).0
 
   -- whether it found the key tells whether the key is there
-  pub place_has : (r : Result ℕ ℕ) → IsKeySearchResult R ks k r → is_ok r ≡ has (eq_by_cmp R) ks k
+  pub place_has : (r : Result ℕ ℕ) → Place R ks k r → is_ok r ≡ has (eq_by_cmp R) ks k
   place_has (Ok i) p = sym (old_key i p)
   place_has (Err i) p = sym (new_key i p)
 
-  pub place_stands : (r : Result ℕ ℕ) → IsKeySearchResult R ks k r → Stands o ks k r
-  place_stands (Ok i) p = (p.0, sym p.1)
-  place_stands (Err i) p = (p.0, before o k ks i s p.0 p.1, after o k ks i s p.2)
+  pub place_stands : (r : Result ℕ ℕ) → Place R ks k r → Stands o ks k r
+  place_stands (Ok i) p = p
+  place_stands (Err i) p = (p.0, lesser i p, greater i p)
+
+  flip : (x y : K) → eq_by_cmp R x y ≡ eq_by_cmp R y x
+  flip = (eq_by_cmp_equiv o).symm
+
+  tied_alike : (x y z : K) → eq_by_cmp R x y ≡ true → eq_by_cmp R x z ≡ eq_by_cmp R y z
+  tied_alike = (eq_by_cmp_equiv o).congr
 
   alike : (q : K) → eq_by_cmp R q k ≡ true → has (eq_by_cmp R) ks q ≡ has (eq_by_cmp R) ks k
-  alike q t = has_alike (eq_by_cmp R) (tied-flip o) (tied-alike o) k q ks t
+  alike q t = has_alike (eq_by_cmp R) flip tied_alike k q ks t
 
-  put_toggles : (i : ℕ) → IsKeySearchResult R ks k (Err i) → Toggled o ks (insert ks i k) k
+  put_toggles : (i : ℕ) → Place R ks k (Err i) → Toggled o ks (insert ks i k) k
   put_toggles i p = record {
-    rising = sorted-put o k ks i s p.0 p.1 p.2;
-    swaps = λ q. has_put (eq_by_cmp R) (tied-flip o) (tied-alike o) k q i ks (missing o k ks i s p.0 p.1 p.2)
+    rising = sorted_put o k ks i s (lesser i p) (greater i p);
+    swaps = λ q. has_put (eq_by_cmp R) flip tied_alike k q i ks (none_tied i p)
         ∙ swap_in (eq_by_cmp R q k) (has (eq_by_cmp R) ks q) (λ t. alike q t ∙ new_key i p);
     one = when_no (has (eq_by_cmp R) ks k) (TakenOut ks (insert ks i k)) (PutIn ks (insert ks i k) k) (new_key i p) (i, p.0, refl);
   }
 
-  cut_toggles : (i : ℕ) → IsKeySearchResult R ks k (Ok i) → Toggled o ks (remove ks i) k
+  cut_toggles : (i : ℕ) → Place R ks k (Ok i) → Toggled o ks (remove ks i) k
   cut_toggles i p =
       let h = hit o k ks i s p.0 p.1 in
       record {
-        rising = sorted-cut o i ks s;
-        swaps = λ q. has_cut (eq_by_cmp R) (tied-flip o) (tied-alike o) k q ks i h.0 h.1
+        rising = sorted_cut R i ks s;
+        swaps = λ q. has_cut (eq_by_cmp R) flip tied_alike k q ks i h.0 h.1
             ∙ swap_out (eq_by_cmp R q k) (has (eq_by_cmp R) ks q) (λ t. alike q t ∙ old_key i p);
         one = when_yes (has (eq_by_cmp R) ks k) (TakenOut ks (remove ks i)) (PutIn ks (remove ks i) k) (old_key i p) (i, p.0, refl);
       }
 
-module _ {K : Type 0} {R : K → K → Ordering → Type 0} (k : K) (ks : List K) (i n : ℕ) where
-  pub put_answers : (ns : List K) → IsKeySearchResult R ks k (Err i) → length ks < n → ns ≡ insert ks i k → Answered R ks ns n k true
+module _ {K : Type 0} {R : K → K → Ordering} (k : K) (ks : List K) (i n : ℕ) where
+  pub put_answers : (ns : List K) → Place R ks k (Err i) → length ks < n → ns ≡ insert ks i k → Answered R ks ns n k true
   put_answers ns p l e = record {
     answer = λ o s. sym (ap (λ z. z || ltb (length ks) n) (new_key o k ks s i p) ∙ lt-ltb (length ks) n l);
     toggled = λ o s so. subst (λ xs. Toggled o ks xs k) (sym e) (put_toggles o k ks s i p);
   }
 
-  pub full_answers : IsKeySearchResult R ks k (Err i) → n ≤ length ks → Answered R ks ks n k false
+  pub full_answers : Place R ks k (Err i) → n ≤ length ks → Answered R ks ks n k false
   full_answers p l = record {
     answer = λ o s. sym (ap (λ z. z || ltb (length ks) n) (new_key o k ks s i p) ∙ le-ltb (length ks) n l);
     toggled = λ o s so. absurd (false≢true so);
   }
 
-  pub cut_answers : (ns : List K) → IsKeySearchResult R ks k (Ok i) → ns ≡ remove ks i → Answered R ks ns n k true
+  pub cut_answers : (ns : List K) → Place R ks k (Ok i) → ns ≡ remove ks i → Answered R ks ns n k true
   cut_answers ns p e = record {
     answer = λ o s. sym (ap (λ z. z || ltb (length ks) n) (old_key o k ks s i p));
     toggled = λ o s so. subst (λ xs. Toggled o ks xs k) (sym e) (cut_toggles o k ks s i p);
@@ -139,14 +153,14 @@ module _ {K : Type 0} {R : K → K → Ordering → Type 0} (k : K) (ks : List K
 
 -- ---- the keys toggled so far
 
-pub keeps_none : {K : Type 0} {R : K → K → Ordering → Type 0} (o : IsTotalOrder R) (ks : List K) → ks ≡ [] → Keeps o ks []
-keeps_none o ks e = record {
-  rising = sorted_none ks e o.cmp;
-  odd = λ q. ap (λ xs. has (eq_by_cmp o) xs q) e;
+pub keeps_none : {K : Type 0} {R : K → K → Ordering} (o : IsTotalOrder R) (ks : List K) → ks ≡ [] → Keeps o ks []
+keeps_none {R = R} o ks e = record {
+  rising = sorted_none ks e R;
+  odd = λ q. ap (λ xs. has (eq_by_cmp R) xs q) e;
 }
 
-pub keeps_more : {K : Type 0} {R : K → K → Ordering → Type 0} (ks ns : List K) (n : ℕ) (k : K) (r : Bool) → Answered R ks ns n k r
+pub keeps_more : {K : Type 0} {R : K → K → Ordering} (ks ns : List K) (n : ℕ) (k : K) (r : Bool) → Answered R ks ns n k r
     → (o : IsTotalOrder R) (ts : List K) → Keeps o ks ts → r ≡ true → Keeps o ns (k ∷ ts)
-keeps_more ks ns n k r a o ts h so =
+keeps_more {R = R} ks ns n k r a o ts h so =
     let t = a.toggled o h.rising so in
-    record { rising = t.rising; odd = λ q. t.swaps q ∙ ap (λ z. cond (eq_by_cmp o q k) (not z) z) (h.odd q) }
+    record { rising = t.rising; odd = λ q. t.swaps q ∙ ap (λ z. cond (eq_by_cmp R q k) (not z) z) (h.odd q) }

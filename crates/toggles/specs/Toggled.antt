@@ -13,7 +13,7 @@ has e [] q = false
 has e (x ∷ xs) q = cond (e q x) true (has e xs q)
 
 -- the answer r tells whether k is among the keys ks, where they rise
-pub record Tells {K : Type 0} (R : K → K → Ordering → Type 0) (ks : List K) (k : K) (r : Bool) : Type 0 where
+pub record Tells {K : Type 0} (R : K → K → Ordering) (ks : List K) (k : K) (r : Bool) : Type 0 where
   pub tells : (o : IsTotalOrder R) → IsStrictlySortedBy R ks → r ≡ has (eq_by_cmp R) ks k
 
 -- ns is ks with the key k put in at some place
@@ -26,14 +26,14 @@ TakenOut ks ns = (i : ℕ) × (i < length ks) × (ns ≡ remove ks i)
 
 -- ns is ks with the key k toggled: it rises, it has k exactly where ks has not, and any other key exactly where ks has it; what differs
 -- is one key that was taken out or put in
-pub record Toggled {K : Type 0} {R : K → K → Ordering → Type 0} (o : IsTotalOrder R) (ks ns : List K) (k : K) : Type 0 where
+pub record Toggled {K : Type 0} {R : K → K → Ordering} (o : IsTotalOrder R) (ks ns : List K) (k : K) : Type 0 where
   pub rising : IsStrictlySortedBy R ns
   pub swaps : (q : K) → has (eq_by_cmp R) ns q ≡ cond (eq_by_cmp R q k) (not (has (eq_by_cmp R) ks q)) (has (eq_by_cmp R) ks q)
   pub one : MatchBool (has (eq_by_cmp R) ks k) (TakenOut ks ns) (PutIn ks ns k)
 
 -- the answer r to toggling k among the keys ks, where they rise, in n places: no exactly where k is new and the places are all taken;
 -- at yes, ns is ks with k toggled
-pub record Answered {K : Type 0} (R : K → K → Ordering → Type 0) (ks ns : List K) (n : ℕ) (k : K) (r : Bool) : Type 0 where
+pub record Answered {K : Type 0} (R : K → K → Ordering) (ks ns : List K) (n : ℕ) (k : K) (r : Bool) : Type 0 where
   pub answer : (o : IsTotalOrder R) → IsStrictlySortedBy R ks → r ≡ (has (eq_by_cmp R) ks k || nat_lt (length ks) n)
   pub toggled : (o : IsTotalOrder R) → IsStrictlySortedBy R ks → r ≡ true → Toggled o ks ns k
 
@@ -43,6 +43,6 @@ odd_times e [] q = false
 odd_times e (t ∷ ts) q = cond (e q t) (not (odd_times e ts q)) (odd_times e ts q)
 
 -- ks rises, and has exactly the keys that were toggled an odd number of times, where ts are the keys toggled, the last one first
-pub record Keeps {K : Type 0} {R : K → K → Ordering → Type 0} (o : IsTotalOrder R) (ks ts : List K) : Type 0 where
+pub record Keeps {K : Type 0} {R : K → K → Ordering} (o : IsTotalOrder R) (ks ts : List K) : Type 0 where
   pub rising : IsStrictlySortedBy R ks
   pub odd : (q : K) → has (eq_by_cmp R) ks q ≡ odd_times (eq_by_cmp R) ts q

@@ -1,14 +1,13 @@
 //! The search for a key among keys that rise.
 ghost use Rattle.std.specs.Cmp.{IsTotalOrder};
-ghost use Rattle.std.specs.BTreeMap.Search.{IsKeySearchResult};
 ghost use Rattle.std.specs.List.Sorted.{IsStrictlySortedBy};
-ghost use Rattle.toggles.specs.Search.{Stands};
+ghost use Rattle.toggles.specs.Search.{Place, Stands};
 
 use std::cmp::Ordering;
 
 /// The place of `key` among `keys`, or else the place at which it belongs: after the lesser keys and before the greater ones.
 pub fn find_place<K: Ord>(keys: &[K], key: &K) -> Result<usize, usize>
-    ensures place { IsKeySearchResult K.Ord.cmp keys.now key.now result }
+    ensures place { Place K.Ord.cmp keys.now key.now result }
     ensures stands { (o : IsTotalOrder K.Ord.cmp) → IsStrictlySortedBy K.Ord.cmp keys.now → Stands o keys.now key.now result }
 {
     let mut low = 0;

@@ -49,7 +49,9 @@ impl<'a> Reader<'a> {
         b: Word,
         c: Word,
     ) -> Result<(i32, i32, i32), Refusal>
-        requires { (WellTold a) × ((WellTold b) × (WellTold c)) }
+        requires a_told { WellTold a }
+        requires b_told { WellTold b }
+        requires c_told { WellTold c }
         ensures { EntryRead self.old self.new kind room a.entry b.entry c.entry result }
     {
         let line = self.line;

@@ -1,8 +1,8 @@
 //! What a toggle list can be asked.
 ghost use Rattle.std.specs.Prelude.{◌≡◌, length, ◌==◌};
 ghost use Rattle.std.specs.List.{slice_get};
-ghost use Rattle.std.specs.BTreeMap.Search.{IsKeySearchResult};
-ghost use Rattle.toggles.specs.Present.{present, size};
+ghost use Rattle.toggles.specs.Present.{present, room, size};
+ghost use Rattle.toggles.specs.Search.{Place};
 ghost use Rattle.toggles.specs.Toggled.{Tells};
 
 use super::Toggles;
@@ -17,14 +17,14 @@ fn copy_at<K: Copy>(keys: &[K], i: usize) -> Option<K>
 
 /// Whether `key` is among `keys`, which rise.
 fn is_among<K: Ord>(keys: &[K], key: &K) -> bool
-    ensures { Tells (λ x' y' r'. r' ≡ K.Ord.cmp x' y') keys.now key.now result }
+    ensures { Tells K.Ord.cmp keys.now key.now result }
 {
     find_place(keys, key).is_ok()
 }
 
 impl<'a, K: Ord + Copy> Toggles<'a, K> {
-    /// The keys present.
-    fn present(&self) -> &[K]
+    /// The keys present, which stand at the front of the lent slice.
+    pub fn present(&self) -> &[K]
         ensures { result.now ≡ present self.now }
     {
         &self.keys[0..self.len]
@@ -36,6 +36,13 @@ impl<'a, K: Ord + Copy> Toggles<'a, K> {
         ensures count { result ≡ length (present self.now) }
     {
         self.len
+    }
+
+    /// How many keys there is room for.
+    pub fn room(&self) -> usize
+        ensures { result ≡ room self.now }
+    {
+        self.keys.len()
     }
 
     /// Whether no key is present.
@@ -54,14 +61,14 @@ impl<'a, K: Ord + Copy> Toggles<'a, K> {
 
     /// Whether `key` is present.
     pub fn has(&self, key: &K) -> bool
-        ensures { Tells (λ x' y' r'. r' ≡ K.Ord.cmp x' y') (present self.now) key.now result }
+        ensures { Tells K.Ord.cmp (present self.now) key.now result }
     {
         is_among(self.present(), key)
     }
 
     /// The place of `key` among the keys present, or else the place at which it belongs.
     pub(super) fn place(&self, key: &K) -> Result<usize, usize>
-        ensures { IsKeySearchResult K.Ord.cmp (present self.now) key.now result }
+        ensures { Place K.Ord.cmp (present self.now) key.now result }
     {
         find_place(self.present(), key)
     }

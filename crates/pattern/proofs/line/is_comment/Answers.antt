@@ -6,5 +6,5 @@ first_byte : (bs : List ℕ) → eqb (get_or bs 0 0) 35 ≡ is_comment bs
 first_byte [] = refl
 first_byte (c ∷ cs) = refl
 
-pub returns-then-not-is-empty : goal.returns-then-not-is-empty
-returns-then-not-is-empty c = first_byte c.args.text.now
+pub returns-then-not-is_empty : goal.returns-then-not-is_empty
+returns-then-not-is_empty c = first_byte c.args.text.now

@@ -1,12 +1,12 @@
-use Rattle.std.proofs.Common.{◌≡◌, cond, sym, ap, ◌∙◌}
+use Rattle.std.proofs.Common.{cond, sym, ap, ◌∙◌}
 use Rattle.pattern.specs.Text.{words}
 use Rattle.pattern.specs.Lines.{said, nothing, of_words, of_kind, kind_of}
 use Rattle.pattern.proofs.line.Line.new.Goals as goal
 
-pub returns-then-is-comment : goal.returns-then-is-comment
+pub returns-then-is_comment : goal.returns-then-is_comment
 unfolding said
-returns-then-is-comment c = record {
-  said = ap (λ b. cond b nothing (of_words (words c.args.text.now))) c.if-is-comment.ensures;
+returns-then-is_comment c = record {
+  said = ap (λ b. cond b nothing (of_words (words c.args.text.now))) c.if-is_comment.ensures;
   told = tt;
 }
 
@@ -14,16 +14,16 @@ pub returns-in-None : goal.returns-in-None
 unfolding said
 returns-in-None c = record {
   said = ap of_words (sym c.in-None.ensures.0 ∙ ap words c.new-rest.ensures)
-      ∙ ap (λ b. cond b nothing (of_words (words c.args.text.now))) c.if-is-comment.ensures;
+      ∙ ap (λ b. cond b nothing (of_words (words c.args.text.now))) c.if-is_comment.ensures;
   told = tt;
 }
 
 pub returns-in-Some : goal.returns-in-Some
 unfolding said
 returns-in-Some c = record {
-  said = c.line-of.ensures.said
-      ∙ ap (λ k. of_kind k (words c.next-word.new.self.rest.now)) (c.kind-of.ensures ∙ ap kind_of c.bytes.ensures)
+  said = c.line_of.ensures.said
+      ∙ ap (λ k. of_kind k (words c.next_word.new.self.rest.now)) (c.kind_of.ensures ∙ ap kind_of c.bytes.ensures)
       ∙ ap of_words (sym c.in-Some.ensures.0 ∙ ap words c.new-rest.ensures)
-      ∙ ap (λ b. cond b nothing (of_words (words c.args.text.now))) c.if-is-comment.ensures;
-  told = c.line-of.ensures.told;
+      ∙ ap (λ b. cond b nothing (of_words (words c.args.text.now))) c.if-is_comment.ensures;
+  told = c.line_of.ensures.told;
 }

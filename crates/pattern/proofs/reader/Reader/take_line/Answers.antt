@@ -1,23 +1,23 @@
-use Rattle.std.proofs.Common.{◌≡◌, ℕ, ◌<◌, List, [], ◌∷◌, length, drop, sym, refl, ap, ◌∙◌, subst, arith}
+use Rattle.std.proofs.Common.{◌≡◌, ℕ, ◌<◌, List, [], ◌∷◌, length, drop, sym, refl, ap, ◌∙◌, subst}
 use Rattle.std.proofs.lemmas.List.{nil_from_length}
 use Rattle.std.proofs.lemmas.Bool.{eqb-true, eqb-false}
 use Rattle.pattern.specs.Text.{lines}
-use Rattle.pattern.specs.Read.{before, from}
+use Rattle.pattern.specs.Read.{from}
 use Rattle.pattern.proofs.LineLaws.{first_line, first_less}
 use Rattle.pattern.proofs.reader.Reader.take_line.Goals as goal
 
-pub returns-then-is-empty : goal.returns-then-is-empty
-returns-then-is-empty c = (nil_from_length _ (eqb-true _ 0 (sym c.if-is-empty.ensures)), refl)
+pub returns-then-is_empty : goal.returns-then-is_empty
+returns-then-is_empty c = (nil_from_length _ (eqb-true _ 0 (sym c.if-is_empty.ensures)), refl)
 
 pub returns : goal.returns
 returns c =
     let bs = c.args.self.now.rest.now in
-    let some : bs ≡ [] → ⊥ = λ e. eqb-false (length bs) 0 (sym c.if-is-empty.ensures) (ap length e) in
-    let rest : c.behind-first-self.result.now ≡ drop 1 (from 10 bs) = c.behind-first-self.ensures ∙ ap (drop 1) (c.split-at.ensures.back ∙ c.count-before-end.ensures.back) in
+    let some : bs ≡ [] → ⊥ = λ e. eqb-false (length bs) 0 (sym c.if-is_empty.ensures) (ap length e) in
+    let rest : c.behind_first-self.result.now ≡ drop 1 (from 10 bs) = c.behind_first-self.ensures ∙ ap (drop 1) (c.split_at.ensures.back ∙ c.count_before-end.ensures.back) in
     record {
       text = first_line bs some
-          ∙ ap (λ w. w ∷ lines (drop 1 (from 10 bs))) (sym (c.split-at.ensures.front ∙ c.count-before-end.ensures.front))
-          ∙ ap (λ xs. c.split-at.result.0.now ∷ lines xs) (sym rest);
+          ∙ ap (λ w. w ∷ lines (drop 1 (from 10 bs))) (sym (c.split_at.ensures.front ∙ c.count_before-end.ensures.front))
+          ∙ ap (λ xs. c.split_at.result.0.now ∷ lines xs) (sym rest);
       count = refl;
       state = refl;
       side = refl;

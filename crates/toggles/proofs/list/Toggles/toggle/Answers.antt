@@ -12,6 +12,7 @@ returns-then-self g c =
     let a = full_answers k (present t) c.in-Err.at (room t) c.in-Err.ensures (omega (arith, t.within)) in
     record {
       room = refl {a = room t};
+      loan = refl {a = t.keys.ghost_name};
       grows = omega arith;
       refused = λ _. (omega (arith, t.within), refl {a = t});
       answered = a;
@@ -22,10 +23,11 @@ pub returns-in-Ok : goal.returns-in-Ok
 returns-in-Ok g c =
     let t = c.args.self.now in
     let k = c.args.key in
-    let ns = present c.remove-at.new.self in
-    let a = cut_answers k (present t) c.in-Ok.at (room t) ns c.in-Ok.ensures c.remove-at.ensures.keys in
+    let ns = present c.remove_at.new.self in
+    let a = cut_answers k (present t) c.in-Ok.at (room t) ns c.in-Ok.ensures c.remove_at.ensures.keys in
     record {
-      room = c.remove-at.ensures.room;
+      room = c.remove_at.ensures.room;
+      loan = c.remove_at.ensures.loan;
       grows = omega arith;
       refused = λ e. absurd (true≢false e);
       answered = a;
@@ -36,13 +38,14 @@ returns-in-Ok g c =
 pub returns-else-self : goal.returns-else-self
 returns-else-self g c =
     let t = c.args.self.now in
-    let u = c.insert-at.new.self in
+    let u = c.insert_at.new.self in
     let k = c.args.key in
     let n = length_present t in
     let l : length (present t) < room t = omega (arith, u.within) in
-    let a = put_answers k (present t) c.in-Err.at (room t) (present u) c.in-Err.ensures l c.insert-at.ensures.keys in
+    let a = put_answers k (present t) c.in-Err.at (room t) (present u) c.in-Err.ensures l c.insert_at.ensures.keys in
     record {
-      room = c.insert-at.ensures.room;
+      room = c.insert_at.ensures.room;
+      loan = c.insert_at.ensures.loan;
       grows = omega arith;
       refused = λ e. absurd (true≢false e);
       answered = a;
