@@ -13,7 +13,7 @@ returns-then-past-volume c =
     let f = c.toggle_both.ensures in
     let within : length (present u) ≤ room t = omega (arith, within_room u) in
     let q = ran_within c.args.volume (shown c.args.volume (present t)) (present t) (present u) c.args.first c.args.past (room t)
-    c.requires.listed c.requires.run.0 c.requires.run.1 within c.if-past-volume.true c.toggle_both.result
+    c.requires.listed c.requires.run.0 c.requires.run.1 within (omega arith) c.toggle_both.result
     (λ e. (f.rising, f.toggled e)) (λ e. let g = f.refused e in (g.1, g.2, g.3)) in
     record { room = f.room; loan = f.loan; fits = q.0; drawn = q.1; refused = λ e. (f.refused e).0 }
 
@@ -25,7 +25,7 @@ returns c =
     let up = c.requires.listed.rising in
     let within : length (present u) ≤ room t = omega (arith, within_room u) in
     let q = ran_to_end c.args.volume (shown c.args.volume (present t)) (present t) (present u) c.args.first c.args.past (room t)
-    c.requires.listed c.requires.run.0 c.requires.run.1 within c.if-past-volume.false c.toggle.result
+    c.requires.listed c.requires.run.0 c.requires.run.1 within (omega arith) c.toggle.result
     (λ e. (
       toggle_rises (present t) (present u) (room t) c.args.first c.toggle.result f.answered up e,
       toggle_has (present t) (present u) (room t) c.args.first c.toggle.result f.answered up e,
