@@ -1,5 +1,5 @@
 use Rattle.std.proofs.Common.{◌+◌, ◌<◌, length, get_or, take, sym, ap, ◌∙◌, arith}
-use Rattle.std.proofs.lemmas.List.{take_all, take_more}
+use Rattle.std.proofs.lemmas.List.{take_more}
 use Rattle.sheet.specs.Sheets.{line, total}
 use Rattle.sheet.proofs.Totals.{total_more}
 use Rattle.sheet.proofs.lines.edit.triangles_of.Goals as goal
@@ -11,8 +11,3 @@ loop-line-preserved c =
     let h : i < length ls = omega arith in
     let here = get_or ls i (line 0 0) in
     (omega arith, ap (λ n. n + here.triangles) c.loop-line.invariant.1 ∙ sym (total_more (take i ls) here) ∙ ap total (sym (take_more ls i (line 0 0) h)))
-
-pub returns : goal.returns
-returns c =
-    let ls = c.args.lines.now in
-    c.loop-line.invariant.1 ∙ ap total (take_all c.loop-line.line-index ls c.loop-line-test.false)
