@@ -1,5 +1,5 @@
 -- A tree of regions in groups: which cells it shows, and which groups it uses.
-use Rattle.std.specs.Prelude.{◌≡◌, ℕ, zero, suc, ◌+◌, ◌-◌, ◌*◌, ◌/◌, ◌%◌, ◌≤◌, min, Bool, true, false, cond, List, [], length, get_or, replicate, ◌==◌, nat_le, nat_lt, slice_index_or}
+use Rattle.std.specs.Prelude.{◌≡◌, ℕ, zero, suc, ◌+◌, ◌-◌, ◌*◌, ◌/◌, ◌%◌, ◌≤◌, min, Bool, true, false, cond, List, [], length, replicate, ◌==◌, nat_le, nat_lt, slice_index_or}
 use Rattle.refusals.specs.Sides.{is_side}
 use Rattle.octree.specs.declared.cells.Cell.{Cell}
 use Rattle.octree.specs.declared.cells.Child.{Child}
@@ -18,7 +18,7 @@ no_group = record { children = [] }
 abbrev pub children_of : List Group → Child → List Child
 children_of gs Empty = replicate 8 Empty
 children_of gs Solid = replicate 8 Solid
-children_of gs (Split g) = (get_or gs g.index no_group).children
+children_of gs (Split g) = (slice_index_or gs g.index no_group).children
 
 abbrev pub child_at : List Group → Child → ℕ → Child
 child_at gs r k = slice_index_or (children_of gs r) k Empty
@@ -85,7 +85,7 @@ index_of Solid = 0
 index_of (Split g) = g.index
 
 abbrev pub freed_before : List Group → ℕ → ℕ
-freed_before gs h = index_of (slice_index_or (get_or gs h no_group).children 0 Empty)
+freed_before gs h = index_of (slice_index_or (slice_index_or gs h no_group).children 0 Empty)
 
 -- how often the group i is among the m freed ones, of which h was freed last
 abbrev pub freed_at : List Group → ℕ → ℕ → ℕ → ℕ

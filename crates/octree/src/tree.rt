@@ -1,6 +1,6 @@
 //! What a region holds, by its groups: its children, its cells, and what changing a run would do to it.
 
-ghost use Rattle.std.specs.Prelude.{◌≡◌, ℕ, ◌+◌, ◌-◌, ◌<◌, ◌≤◌, length, get_or, slice_index_or};
+ghost use Rattle.std.specs.Prelude.{◌≡◌, ℕ, ◌+◌, ◌-◌, ◌<◌, ◌≤◌, length, slice_index_or};
 ghost use Rattle.octree.specs.declared.cells.Child.TheVariants.{Empty};
 ghost use Rattle.octree.specs.declared.cells.Kind.TheVariants.{AllEmpty};
 ghost use Rattle.octree.specs.Trees.{children_of, no_group, solid_at};
@@ -88,7 +88,7 @@ pub(crate) fn kinds(children: [Child; 8]) -> [Kind; 8]
 
 /// What eight children hold together.
 pub(crate) fn blended(kinds: [Kind; 8]) -> Kind
-    ensures { result ≡ blend (λ k. get_or kinds k AllEmpty) }
+    ensures { result ≡ blend (λ k. slice_index_or kinds k AllEmpty) }
 {
     let [a, b, c, d, e, f, g, h] = kinds;
     a.both(b.both(c.both(d.both(e.both(f.both(g.both(h)))))))

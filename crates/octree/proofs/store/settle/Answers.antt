@@ -1,11 +1,7 @@
-use Rattle.std.proofs.Common.{refl, ap, ◌∙◌, arith}
+use Rattle.std.proofs.Common.{refl, ◌∙◌}
 use Rattle.octree.specs.declared.cells.Child.TheVariants.{Empty, Solid}
-use Rattle.octree.specs.OnTheWay.{wants}
 use Rattle.octree.proofs.Settles.{blend_ext, settled_leaf, settled_split}
 use Rattle.octree.proofs.store.settle.Goals as goal
-
-pub group_for-id-requires : goal.group_for-id-requires
-group_for-id-requires c = record { apart = c.requires.apart; some = omega (arith, c.requires.some, ap wants (c.in-Mixed.ensures ∙ blend_ext _ _ c.kinds.ensures)) }
 
 pub returns-in-AllEmpty : goal.returns-in-AllEmpty
 returns-in-AllEmpty c = settled_leaf c.args.groups.now c.release.new.groups c.args.unused.now c.release.new.self c.args.region Empty c.args.children refl (c.in-AllEmpty.ensures ∙ blend_ext _ _ c.kinds.ensures) c.release.ensures

@@ -7,9 +7,6 @@ use Rattle.octree.proofs.tree.+look.Goals as goal
 pub children-children-requires : goal.children-children-requires
 children-children-requires t c = readable_there c.args.groups.now c.args.level c.args.region c.requires
 
-pub overflow_sub-level : goal.overflow_sub-level
-overflow_sub-level t c = split_above c.args.groups.now c.args.level c.args.region c.requires.tight (ap has_group c.in-Split.is)
-
 pub look-requires : goal.look-requires
 look-requires t c =
     let l : 1 ≤ c.args.level = split_above c.args.groups.now c.args.level c.args.region c.requires.tight (ap has_group c.in-Split.is) in

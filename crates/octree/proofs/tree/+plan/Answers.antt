@@ -1,15 +1,12 @@
 use Rattle.std.proofs.Common.{◌≡◌, ◌-◌, length, ap, ◌∙◌, arith, rules}
-use Rattle.octree.specs.OnTheWay.{kind_of, wants}
+use Rattle.octree.specs.OnTheWay.{wants}
 use Rattle.octree.proofs.Places.{width_low}
 use Rattle.octree.proofs.Reading.{readable_there, readable_part}
-use Rattle.octree.proofs.Planning.{plan_none, plan_cell, plan_step, part_lies_in}
+use Rattle.octree.proofs.Planning.{plan_none, plan_step, part_lies_in}
 use Rattle.octree.proofs.tree.+plan.Goals as goal
 
 pub returns-then-run : goal.returns-then-run
 returns-then-run t c = plan_none c.args.groups.now c.args.level c.args.region c.args.run c.kind.result c.requires.readable.tight c.if-run.true c.kind.ensures
-
-pub returns-then-level-eq0 : goal.returns-then-level-eq0
-returns-then-level-eq0 t c = plan_cell c.args.groups.now c.args.level c.args.region c.args.run _ c.if-level-eq0.true c.requires.readable.tight c.requires.lies c.if-run.false (c.kind-then-level-eq0.ensures ∙ ap kind_of c.turned_over.ensures)
 
 pub children-children-requires : goal.children-children-requires
 children-children-requires t c = readable_there c.args.groups.now c.args.level c.args.region c.requires.readable

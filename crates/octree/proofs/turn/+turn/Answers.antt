@@ -2,14 +2,8 @@ use Rattle.std.proofs.Common.{◌≡◌, suc, ◌-◌, length, sym, subst, arith
 use Rattle.octree.specs.Trees.{solid_at}
 use Rattle.octree.specs.OnTheWay.{flipped, Ready, Moved}
 use Rattle.octree.proofs.Reading.{readable_there, readable_part}
-use Rattle.octree.proofs.Turning.{ready_readable, moved_none, moved_cell, first_ready, second_ready, settle_apart, settle_some, turned}
+use Rattle.octree.proofs.Turning.{ready_readable, first_ready, second_ready, settle_apart, settle_some, turned}
 use Rattle.octree.proofs.turn.+turn.Goals as goal
-
-pub returns-then-run : goal.returns-then-run
-returns-then-run t c = moved_none c.args.groups.now c.args.unused.now c.args.level c.args.region c.args.run c.requires c.if-run.true
-
-pub returns-then-level-eq0 : goal.returns-then-level-eq0
-returns-then-level-eq0 t c = moved_cell c.args.groups.now c.args.unused.now c.args.level c.args.region c.turned_over.result c.args.run c.if-level-eq0.true c.requires c.if-run.false c.turned_over.ensures
 
 pub children-children-requires : goal.children-children-requires
 children-children-requires t c = readable_there c.args.groups.now c.args.level c.args.region (ready_readable c.args.groups.now c.args.unused.now c.args.level c.args.region c.args.run c.requires)

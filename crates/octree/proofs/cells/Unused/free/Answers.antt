@@ -8,12 +8,6 @@ use Rattle.octree.proofs.cells.Unused.free.Goals as goal
 pub read-group-requires : goal.read-group-requires
 read-group-requires c = own_within c.args.groups.now c.args.self.now (Split c.args.id) c.requires
 
-pub write-requires : goal.write-requires
-write-requires c = own_within c.args.groups.now c.args.self.now (Split c.args.id) c.requires
-
-pub count_freed-requires : goal.count_freed-requires
-count_freed-requires c = omega (arith, c.requires.few)
-
 pub returns : goal.returns
 returns c =
     subst (λ (u : Unused). Freed c.args.groups.now c.args.self.now (Split c.args.id) c.write.new.groups u) (sym c.count_freed.ensures)
