@@ -1,8 +1,8 @@
 -- Marks, one after the other.
-use Rattle.std.proofs.Common.{◌≡◌, ℕ, Bool, true, false, ◌&&◌, ◌||◌, sym, refl, ap, ◌∙◌, subst}
+use Rattle.std.proofs.Common.{◌≡◌, ℕ, Bool, true, false, ◌||◌, refl, ap, ◌∙◌, subst}
 use Rattle.block.specs.Drawing.{in_box, number}
 use Rattle.dense.specs.declared.Dense.{Dense}
-use Rattle.dense.specs.Board.{Sound, Tied, drawing_of, edge_of, fits_in}
+use Rattle.dense.specs.Board.{Sound, drawing_of, edge_of, fits_in}
 use Rattle.dense.specs.Ties.{tied_on, tied_same}
 use Rattle.skins.specs.Skins.{Marked}
 

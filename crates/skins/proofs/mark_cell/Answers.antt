@@ -23,7 +23,7 @@ returns-then-has c =
     let drawn : drawing_of c.mark.new.self ≡ marked d (number n x y z) = made.drawn ∙ cond-true (is_ok q) _ _ ok in
     record {
       sound = made.kept;
-      tied = made.same-loans;
+      tied = made.same_loans;
       same_fits = made.same_fits;
       cells = λ u v w h. ap (λ (e : ℕ → Bool). e (number n u v w)) drawn
           ∙ marked_cell n x y z u v w c.requires.inside h d (made_at c.args.skin (triangle_of c.args.facet.now)) (sym c.if-has.ensures);

@@ -12,7 +12,7 @@ loop-z-init c =
 
 pub loop-z-preserved : goal.loop-z-preserved
 loop-z-preserved c =
-    (omega arith, marked_on (λ u v w. third_more c.args.extent.z.start c.loop-z.z w c.loop-z.auto.z (in_span c.args.extent.x u) (in_span c.args.extent.y v) (made_at c.args.skin (triangle_of c.args.facet.now) u v w)) c.loop-z.invariant.1 c.mark-layer.ensures)
+    (omega arith, marked_on (λ u v w. third_more c.args.extent.z.start c.loop-z.z w c.loop-z.auto.z (in_span c.args.extent.x u) (in_span c.args.extent.y v) (made_at c.args.skin (triangle_of c.args.facet.now) u v w)) c.loop-z.invariant.1 c.mark_layer.ensures)
 
 pub returns : goal.returns
 returns c =

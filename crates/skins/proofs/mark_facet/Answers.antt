@@ -1,5 +1,4 @@
-use Rattle.std.proofs.Common.{◌≡◌, ℕ, true, ap, ◌∙◌, subst}
-use Rattle.block.specs.Drawing.{in_box}
+use Rattle.std.proofs.Common.{◌≡◌, ℕ, ◌∙◌, subst}
 use Rattle.geometry.specs.Extents.{Extends}
 use Rattle.geometry.specs.Read.{triangle_of}
 use Rattle.dense.specs.Board.{edge_of}
@@ -12,4 +11,4 @@ returns c =
     let t = triangle_of c.args.facet.now in
     let same : c.cells-n.result ≡ edge_of c.args.board.now = c.cells-n.ensures ∙ c.side.ensures in
     let extends = subst (λ (n : ℕ). Extends n t c.extent.result) same c.extent.ensures in
-    marked_as (λ u v w h. within_extent (edge_of c.args.board.now) t c.extent.result extends c.args.skin u v w h) c.mark-extent.ensures
+    marked_as (λ u v w h. within_extent (edge_of c.args.board.now) t c.extent.result extends c.args.skin u v w h) c.mark_extent.ensures

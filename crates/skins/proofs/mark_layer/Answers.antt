@@ -12,7 +12,7 @@ loop-y-init c =
 
 pub loop-y-preserved : goal.loop-y-preserved
 loop-y-preserved c =
-    (omega arith, marked_on (λ u v w. second_more c.args.ys.start c.loop-y.y v c.loop-y.auto.y (in_span c.args.xs u) (eqb w c.args.z && made_at c.args.skin (triangle_of c.args.facet.now) u v w)) c.loop-y.invariant.1 c.mark-row.ensures)
+    (omega arith, marked_on (λ u v w. second_more c.args.ys.start c.loop-y.y v c.loop-y.auto.y (in_span c.args.xs u) (eqb w c.args.z && made_at c.args.skin (triangle_of c.args.facet.now) u v w)) c.loop-y.invariant.1 c.mark_row.ensures)
 
 pub returns : goal.returns
 returns c =

@@ -11,7 +11,7 @@ loop-x-init c =
 
 pub loop-x-preserved : goal.loop-x-preserved
 loop-x-preserved c =
-    (omega arith, marked_on (λ u v w. first_more c.args.xs.start c.loop-x.x u c.loop-x.auto.x (eqb v c.args.y && (eqb w c.args.z && made_at c.args.skin (triangle_of c.args.facet.now) u v w))) c.loop-x.invariant.1 c.mark-cell.ensures)
+    (omega arith, marked_on (λ u v w. first_more c.args.xs.start c.loop-x.x u c.loop-x.auto.x (eqb v c.args.y && (eqb w c.args.z && made_at c.args.skin (triangle_of c.args.facet.now) u v w))) c.loop-x.invariant.1 c.mark_cell.ensures)
 
 pub returns : goal.returns
 returns c =

@@ -23,11 +23,11 @@ loop-facet-preserved c =
     map_more triangle_of fs i f c.loop-facet-test.true ∙ ap (λ g. ts ++ triangle_of g ∷ []) (sym c.facet-item.is) in
     marked_on
     (λ x y z. or-more c.args.skin (triangle_of f) ts x y z ∙ ap (λ us. some_make c.args.skin us x y z) (sym more))
-    c.loop-facet.invariant c.mark-facet.ensures
+    c.loop-facet.invariant c.mark_facet.ensures
 
 pub returns : goal.returns
 returns c = (
-  sym c.has-room.ensures.bytes ∙ c.if-not-has-room.false,
+  sym c.has_room.ensures.bytes ∙ c.if-not-has_room.false,
   marked_as
       (λ x y z _. ap (λ fs. some_make c.args.skin (map triangle_of fs) x y z) (take_all c.loop-facet.facet-index c.args.facets.now c.loop-facet-test.false))
       c.loop-facet.invariant,
