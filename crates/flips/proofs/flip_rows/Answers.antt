@@ -3,16 +3,16 @@ use Rattle.std.proofs.lemmas.Bool.{false≢true}
 use Rattle.flips.proofs.Runs.{runs_longest}
 use Rattle.flips.proofs.flip_rows.Goals as goal
 
-pub undo-rows-requires : goal.undo-rows-requires
-undo-rows-requires g c = record { sound = c.make-rows.ensures.kept; within = omega (arith, c.in-Err.ensures.stand.0) }
+pub undo_rows-requires : goal.undo_rows-requires
+undo_rows-requires g c = record { sound = c.make_rows.ensures.kept; within = omega (arith, c.in-Err.ensures.stand.0) }
 
 pub returns-in-Ok : goal.returns-in-Ok
 returns-in-Ok g c =
     let told = c.in-Ok.ensures in
     record {
       kept = told.kept;
-      same-loans = told.same-loans;
-      same-side = told.same-side;
+      same_loans = told.same_loans;
+      same_side = told.same_side;
       same_fits = told.same_fits;
       answer = told.made.0;
       drawn = told.made.1;
@@ -23,12 +23,12 @@ returns-in-Ok g c =
 pub returns-in-Err : goal.returns-in-Err
 returns-in-Err g c =
     let told = c.in-Err.ensures in
-    let undone = c.undo-rows.ensures in
+    let undone = c.undo_rows.ensures in
     let stand = told.stand in
     record {
       kept = undone.kept;
-      same-loans = g.B.Block.ties_on c.args.block.now c.make-rows.new.block c.undo-rows.new.block told.same-loans undone.same-loans;
-      same-side = undone.same-side ∙ told.same-side;
+      same_loans = g.B.Block.ties_on c.args.block.now c.make_rows.new.block c.undo_rows.new.block told.same_loans undone.same_loans;
+      same_side = undone.same_side ∙ told.same_side;
       same_fits = undone.same_fits ∙ told.same_fits;
       answer = told.made;
       drawn = undone.back (g.B.Block.drawing c.args.block.now) stand.1 stand.2 stand.3;

@@ -16,14 +16,14 @@ loop-i-preserved g c =
     let fs = c.args.flips.now in
     let i = c.loop-i.i - 1 in
     let inv = c.loop-i.invariant in
-    let told = c.make-flip.ensures in
+    let told = c.make_flip.ensures in
     let up : c.loop-i.i ≡ i + 1 = omega arith in
     let within : i < length fs = omega arith in (
       told.kept,
-      g.B.Block.ties_on c.args.block.now c.loop-i.block c.make-flip.new.block inv.1 told.same-loans,
-      told.same-side ∙ inv.2,
+      g.B.Block.ties_on c.args.block.now c.loop-i.block c.make_flip.new.block inv.1 told.same_loans,
+      told.same_side ∙ inv.2,
       told.same_fits ∙ inv.3,
       λ d fit way now.
-          made_again n F d fs i within c.requires.in_box (g.B.Block.drawing c.make-flip.new.block) c.make-flip.result inv.2 inv.3 (told.refused, told.drawn)
+          made_again n F d fs i within c.requires.in_box (g.B.Block.drawing c.make_flip.new.block) c.make_flip.result inv.2 inv.3 (told.refused, told.drawn)
           (inv.4 d fit way now ∙ ap (λ k. drawn n d (take k fs)) up) fit way,
     )

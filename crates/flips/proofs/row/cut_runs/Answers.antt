@@ -37,7 +37,7 @@ pub returns : goal.returns
 returns c =
     let inv = c.loop-run.invariant in
     let cells = c.args.cells.now in
-    let written = sym (append-nil (take c.loop-run.count c.loop-run.flips)) ∙ inv.2 [] c.in-default.ensures in
+    let written = sym (append-nil (take c.loop-run.count c.loop-run.flips)) ∙ inv.2 [] c.in_default.ensures in
     record {
       within = omega arith;
       longest = subst (LongestRuns (length cells) (λ x. get_or cells x false))

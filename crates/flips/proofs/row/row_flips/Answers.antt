@@ -10,9 +10,9 @@ returns g c =
     let short : n ≤ 64 = side_le n c.args.side.is_one in
     let told = c.row.ensures in
     let kept = c.row.auto in
-    let cut = c.cut-runs.ensures in
+    let cut = c.cut_runs.ensures in
     let long : length c.row.new.cells ≡ n = omega arith in
     record {
       within = omega (arith, cut.within);
-      written = row_told (g.S.RowSource.solid c.args.source.now) n c.args.number c.row-at-row.result c.row.new.cells _ c.row-at-row.ensures.y c.row-at-row.ensures.z long (λ x h. told x (omega arith)) cut.written;
+      written = row_told (g.S.RowSource.solid c.args.source.now) n c.args.number c.row_at-row.result c.row.new.cells _ c.row_at-row.ensures.y c.row_at-row.ensures.z long (λ x h. told x (omega arith)) cut.written;
     }
