@@ -1,5 +1,5 @@
 -- The faces of a part: the triangles that they name, and what is found of them.
-use Rattle.std.specs.Prelude.{◌≡◌, ℕ, zero, suc, ◌-◌, ◌≤◌, Bool, true, false, List, ◌++◌, map, take, ℤ, pos, negsuc, Some, None, Ok, Err, Option, Result}
+use Rattle.std.specs.Prelude.{◌≡◌, ℕ, zero, suc, ◌-◌, ◌≤◌, true, false, List, ◌++◌, map, take, ℤ, pos, negsuc, Some, None, Ok, Err, Option, Result}
 use Rattle.std.specs.List.{slice_get, All}
 use Rattle.geometry.specs.declared.mesh.Point.{Point}
 use Rattle.geometry.specs.declared.mesh.Face.{Face}

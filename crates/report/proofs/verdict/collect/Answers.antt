@@ -1,4 +1,4 @@
-use Rattle.std.proofs.Common.{◌≡◌, ◌+◌, List, [], ◌∷◌, map, take, vec_items, sym, refl, ap, ◌∙◌, subst}
+use Rattle.std.proofs.Common.{◌+◌, List, map, take, vec_items, sym, subst}
 use Rattle.std.proofs.lemmas.List.{take_all}
 use Rattle.geometry.specs.declared.mesh.Face.{Face}
 use Rattle.geometry.specs.declared.facet.Facet.{Facet}
