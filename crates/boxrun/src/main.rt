@@ -1,13 +1,17 @@
 //! boxrun: reads a pattern text from standard input and prints which cells of the box its parts make solid.
 #![tactic(auto)]
 
+ghost use Rattle.std.specs.Prelude.{◌+◌, ◌≤◌, IfOk, vec_len};
+
 use report::{MOST_BYTES, report};
 use std::io::Read;
 
-/// The input, or its first bytes where it is longer than a text may be.
-fn read_input(rt: &HostRuntime) -> anyhow::Result<Vec<u8>> {
+/// The input; of one that is longer than a text may be, the first bytes, no more than one too many.
+fn read_input(rt: &HostRuntime) -> anyhow::Result<Vec<u8>>
+    ensures { IfOk result (λ text. vec_len text ≤ MOST_BYTES + 1) }
+{
     let mut text = Vec::new(rt.alloc());
-    let mut input = rt.stdin();
+    let mut input = rt.stdin().take(MOST_BYTES as u64 + 1);
     while text.len() <= MOST_BYTES {
         let mut chunk = [0u8; 4096];
         let count = input.read(&mut chunk)?;
@@ -22,7 +26,7 @@ fn read_input(rt: &HostRuntime) -> anyhow::Result<Vec<u8>> {
 fn run(rt: &HostRuntime) -> anyhow::Result<()> {
     let text = read_input(rt)?;
     let out = report(rt.alloc(), text.as_slice())?;
-    rt.print(out.as_str())?;
+    print!(rt; "{out}")?;
     Ok(())
 }
 

@@ -2,7 +2,7 @@
 use Rattle.std.proofs.Common.{◌≡◌, Bool, true, false, cond, not, ◌&&◌, List, [], ◌∷◌, ◌++◌, is_some, Some, None, Ordering, Less, Equal, Greater, unwrap_or, sym, refl, ap, ◌∙◌, subst}
 use mathlib.Core.Bool.{false≢true}
 use Rattle.std.specs.Ordering.{eq_by_cmp, is_lt, ordering_reverse}
-use Rattle.std.proofs.SortedKeys.{tied_itself}
+use Rattle.std.proofs.lemmas.Cmp.{eq_by_cmp_equiv}
 use Rattle.algebra.specs.Parity.{◌⊻◌}
 use Rattle.algebra.proofs.Parity.{xor_assoc, xor_left}
 use Rattle.algebra.proofs.Tests.{both, and_split, same_test}
@@ -11,7 +11,7 @@ use Rattle.geometry.specs.declared.mesh.Side.{Side}
 use Rattle.geometry.specs.declared.mesh.Triangle.{Triangle}
 use Rattle.geometry.specs.Closed.{eq_p, joins, odd_sides}
 use Rattle.toggles.specs.Toggled.{Toggled}
-use Rattle.closing.specs.Order.{point_order, side_order, before, side_by, side_between}
+use Rattle.closing.specs.Order.{point_cmp, side_cmp, point_order, side_order, before, side_by, side_between}
 use Rattle.closing.specs.Holds.{Lists, toggled_at, Holds}
 use Rattle.closing.proofs.Points.{same_point, eq_p_same, level_point, tied_side, not_before_itself, before_one_way}
 
@@ -67,19 +67,19 @@ joins_back a b c d = joins_turned a b c d ∙ (λ i. cond (and_swap (eq_p a d) (
 
 -- of two sides whose lesser end comes first, one joins the ends of the other exactly where they are the same
 joins_tied : (x s : Side) → before x.low x.high ≡ true → before s.low s.high ≡ true
-    → joins x.low x.high s.low s.high ≡ eq_by_cmp side_order x s
-joins_tied x s up on = same_test (joins x.low x.high s.low s.high) (eq_by_cmp side_order x s) to back
+    → joins x.low x.high s.low s.high ≡ eq_by_cmp side_cmp x s
+joins_tied x s up on = same_test (joins x.low x.high s.low s.high) (eq_by_cmp side_cmp x s) to back
   where
-    level : x.low ≡ s.low → x.high ≡ s.high → eq_by_cmp side_order x s ≡ true
-    level l h = (λ i. eq_by_cmp side_order (record { low = l i; high = h i }) s) ∙ tied_itself side_order s
+    level : x.low ≡ s.low → x.high ≡ s.high → eq_by_cmp side_cmp x s ≡ true
+    level l h = (λ i. eq_by_cmp side_cmp (record { low = l i; high = h i }) s) ∙ (eq_by_cmp_equiv side_order).refl s
 
     crossed : x.low ≡ s.high → x.high ≡ s.low → ⊥
     crossed l h = before_one_way s.low s.high on ((λ i. before (sym l i) (sym h i)) ∙ up)
 
-    to : joins x.low x.high s.low s.high ≡ true → eq_by_cmp side_order x s ≡ true
+    to : joins x.low x.high s.low s.high ≡ true → eq_by_cmp side_cmp x s ≡ true
     to = joined x.low x.high s.low s.high level (λ l h. absurd (crossed l h))
 
-    back : eq_by_cmp side_order x s ≡ true → joins x.low x.high s.low s.high ≡ true
+    back : eq_by_cmp side_cmp x s ≡ true → joins x.low x.high s.low s.high ≡ true
     back t = ap (λ (y : Side). joins y.low y.high s.low s.high) (tied_side x s t) ∙ joins_ends s.low s.high
 
 -- a side with equal ends joins those of no side whose lesser end comes first
@@ -98,8 +98,8 @@ module _ (ks ns : List Side) (f : Point → Point → Bool) (h : Lists ks f) whe
   lists_more s on t = record {
     rising = t.rising;
     exact = λ x.
-        t.swaps x ∙ ap (λ z. cond (eq_by_cmp side_order x s) (not z) z) (h.exact x)
-        ∙ toggled_there (before x.low x.high) (eq_by_cmp side_order x s) (joins x.low x.high s.low s.high) (f x.low x.high)
+        t.swaps x ∙ ap (λ z. cond (eq_by_cmp side_cmp x s) (not z) z) (h.exact x)
+        ∙ toggled_there (before x.low x.high) (eq_by_cmp side_cmp x s) (joins x.low x.high s.low s.high) (f x.low x.high)
         (λ e. ap (λ (y : Side). before y.low y.high) (tied_side x s e) ∙ on) (λ up. joins_tied x s up on);
   }
 
@@ -112,7 +112,7 @@ module _ (ks ns : List Side) (f : Point → Point → Bool) (h : Lists ks f) whe
   }
 
   -- by what stands between p and q, in their order k
-  some_by : (p q : Point) (s : Side) (k : Ordering) → point_order.cmp p q ≡ k → Some s ≡ side_by k p q
+  some_by : (p q : Point) (s : Side) (k : Ordering) → point_cmp p q ≡ k → Some s ≡ side_by k p q
       → Toggled side_order ks ns s → Lists ns (toggled_at p q f)
   some_by p q s Less o e t =
       let u = subst (Toggled side_order ks ns) (ap (λ z. unwrap_or z s) e) t in
@@ -120,19 +120,19 @@ module _ (ks ns : List Side) (f : Point → Point → Bool) (h : Lists ks f) whe
   some_by p q s Equal o e t = absurd (false≢true (sym (ap is_some e)))
   some_by p q s Greater o e t =
       let u = subst (Toggled side_order ks ns) (ap (λ z. unwrap_or z s) e) t in
-      let turned = lists_more (record { low = q; high = p }) (ap is_lt (point_order.flip q p ∙ ap ordering_reverse o)) u in
+      let turned = lists_more (record { low = q; high = p }) (ap is_lt (point_order.antisymm q p ∙ ap ordering_reverse o)) u in
       subst (Lists ns) (λ i a b. joins_turned a b q p i ⊻ f a b) turned
 
-  none_by : (p q : Point) (k : Ordering) → point_order.cmp p q ≡ k → None ≡ side_by k p q → Lists ks (toggled_at p q f)
+  none_by : (p q : Point) (k : Ordering) → point_cmp p q ≡ k → None ≡ side_by k p q → Lists ks (toggled_at p q f)
   none_by p q Less o e = absurd (false≢true (ap is_some e))
   none_by p q Equal o e = lists_level p q (level_point p q o)
   none_by p q Greater o e = absurd (false≢true (ap is_some e))
 
   pub lists_some : (p q : Point) (s : Side) → Some s ≡ side_between p q → Toggled side_order ks ns s → Lists ns (toggled_at p q f)
-  lists_some p q s = some_by p q s (point_order.cmp p q) refl
+  lists_some p q s = some_by p q s (point_cmp p q) refl
 
   pub lists_none : (p q : Point) → None ≡ side_between p q → Lists ks (toggled_at p q f)
-  lists_none p q = none_by p q (point_order.cmp p q) refl
+  lists_none p q = none_by p q (point_cmp p q) refl
 
 -- ---- one more triangle
 

@@ -2,15 +2,14 @@
 use Rattle.std.proofs.Common.{◌≡◌, zero, suc, true, ◌&&◌, ℤ, pos, negsuc, ◌-ℤ◌, Ordering, Less, Equal, Greater, sym, refl, ap, ◌∙◌, arith}
 use mathlib.Core.Bool.{false≢true}
 use Rattle.std.specs.Ordering.{eq_by_cmp, is_eq, is_lt, ordering_reverse, ordering_then}
-use Rattle.std.specs.Cmp.{signed_Decides}
-use Rattle.std.proofs.SortedKeys.{is-equal, level}
+use Rattle.std.specs.Cmp.{Equal-is, signed_Decides, tied_itself}
 use Rattle.std.proofs.lemmas.Int.{ints}
 use Rattle.algebra.proofs.Tests.{both, and_split}
 use Rattle.geometry.specs.declared.mesh.Point.{Point}
 use Rattle.geometry.specs.declared.mesh.Side.{Side}
 use Rattle.geometry.specs.Geometry.{is_zero}
 use Rattle.geometry.specs.Closed.{eq_z, eq_p}
-use Rattle.closing.specs.Order.{point_order, side_order, before}
+use Rattle.closing.specs.Order.{point_cmp, side_cmp, point_order, before}
 
 -- ---- equal coordinates
 
@@ -47,7 +46,7 @@ first_level Less b e = absurd (false≢true (ap is_eq e))
 first_level Equal b e = (refl, e)
 first_level Greater b e = absurd (false≢true (ap is_eq e))
 
-pub level_point : (p q : Point) → point_order.cmp p q ≡ Equal → p ≡ q
+pub level_point : (p q : Point) → point_cmp p q ≡ Equal → p ≡ q
 level_point p q e =
     let x = first_level _ _ e in
     let y = first_level _ _ x.1 in
@@ -56,17 +55,17 @@ level_point p q e =
     let ez = (signed_Decides p.z q.z).0 (ap is_eq y.1) in
     λ i. record { x = ex i; y = ey i; z = ez i }
 
-pub tied_side : (x s : Side) → eq_by_cmp side_order x s ≡ true → x ≡ s
+pub tied_side : (x s : Side) → eq_by_cmp side_cmp x s ≡ true → x ≡ s
 tied_side x s t =
-    let e = first_level _ _ (is-equal (side_order.cmp x s) t) in
+    let e = first_level _ _ ((Equal-is (side_cmp x s)).0 t) in
     let el = level_point x.low s.low e.0 in
     let eh = level_point x.high s.high e.1 in
     λ i. record { low = el i; high = eh i }
 
 -- ---- before
 
-pub is_before : (p q : Point) → before p q ≡ true → point_order.cmp p q ≡ Less
-is_before p q e = less (point_order.cmp p q) e
+pub is_before : (p q : Point) → before p q ≡ true → point_cmp p q ≡ Less
+is_before p q e = less (point_cmp p q) e
   where
     less : (a : Ordering) → is_lt a ≡ true → a ≡ Less
     less Less h = refl
@@ -74,7 +73,7 @@ is_before p q e = less (point_order.cmp p q) e
     less Greater h = absurd (false≢true h)
 
 pub not_before_itself : (p q : Point) → before p q ≡ true → p ≡ q → ⊥
-not_before_itself p q e same = false≢true (sym (ap is_lt (ap (point_order.cmp p) (sym same) ∙ level point_order p)) ∙ e)
+not_before_itself p q e same = false≢true (sym (ap is_lt (ap (point_cmp p) (sym same) ∙ tied_itself point_order p)) ∙ e)
 
 pub before_one_way : (p q : Point) → before p q ≡ true → before q p ≡ true → ⊥
-before_one_way p q e f = false≢true (sym (ap is_lt (point_order.flip q p ∙ ap ordering_reverse (is_before p q e))) ∙ f)
+before_one_way p q e f = false≢true (sym (ap is_lt (point_order.antisymm q p ∙ ap ordering_reverse (is_before p q e))) ∙ f)

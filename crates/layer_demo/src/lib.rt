@@ -37,25 +37,25 @@ impl<B: Block> Counted<B> {
 }
 
 impl<B: Block> Block for Counted<B> {
-    ghost edge = { λ s. B.Block.edge s.below };
+    ghost edge = { λ s. B.edge s.below };
 
-    ghost drawing = { λ s. B.Block.drawing s.below };
+    ghost drawing = { λ s. B.drawing s.below };
 
-    ghost fits = { λ s. B.Block.fits s.below };
+    ghost fits = { λ s. B.fits s.below };
 
-    ghost sound = { λ s. B.Block.sound s.below };
+    ghost sound = { λ s. B.sound s.below };
 
-    ghost ties = { λ s t. B.Block.ties s.below t.below };
+    ghost ties = { λ s t. B.ties s.below t.below };
 
-    ghost ties_same = { λ s. B.Block.ties_same s.below };
+    ghost ties_same = { λ s. B.ties_same s.below };
 
-    ghost ties_on = { λ s t u. B.Block.ties_on s.below t.below u.below };
+    ghost ties_on = { λ s t u. B.ties_on s.below t.below u.below };
 
-    ghost blank_fits = { λ s. B.Block.blank_fits s.below };
+    ghost blank_fits = { λ s. B.blank_fits s.below };
 
-    ghost present_fits = { λ s. B.Block.present_fits s.below };
+    ghost present_fits = { λ s. B.present_fits s.below };
 
-    ghost within = { λ s. B.Block.within s.below };
+    ghost within = { λ s. B.within s.below };
 
     fn side(&self) -> BoxSide {
         self.below.side()
@@ -66,13 +66,13 @@ impl<B: Block> Block for Counted<B> {
     }
 
     fn flip(&mut self, y: usize, z: usize, l: usize, r: usize) -> Result<(), Refusal>
-        requires { sound self.old.below }
-        ensures kept { sound self.new.below }
-        ensures same_loans { ties self.old.below self.new.below }
-        ensures same_side { edge self.new.below ≡ edge self.old.below }
-        ensures same_fits { fits self.new.below ≡ fits self.old.below }
-        ensures refused { refusal_of result ≡ flip_refusal (edge self.old.below) (fits self.old.below) (drawing self.old.below) y z l r }
-        ensures drawn { drawing self.new.below ≡ (if is_ok result then changed (edge self.old.below) (drawing self.old.below) y z l r else drawing self.old.below) }
+        requires { B.sound self.old.below }
+        ensures kept { B.sound self.new.below }
+        ensures same_loans { B.ties self.old.below self.new.below }
+        ensures same_side { B.edge self.new.below ≡ B.edge self.old.below }
+        ensures same_fits { B.fits self.new.below ≡ B.fits self.old.below }
+        ensures refused { refusal_of result ≡ flip_refusal (B.edge self.old.below) (B.fits self.old.below) (B.drawing self.old.below) y z l r }
+        ensures drawn { B.drawing self.new.below ≡ (if is_ok result then changed (B.edge self.old.below) (B.drawing self.old.below) y z l r else B.drawing self.old.below) }
         ensures counted { self.new.flips ≡ (if is_ok result then min (self.old.flips + 1) (2 ^ 64 - 1) else self.old.flips) }
     {
         self.below.flip(y, z, l, r)?;
@@ -83,13 +83,13 @@ impl<B: Block> Block for Counted<B> {
 
 /// Changes a run of a block, and answers whether its first cell is solid then. The refusals are those of `flip`.
 pub fn turn<B: Block>(b: &mut B, y: usize, z: usize, l: usize, r: usize) -> Result<bool, Refusal>
-    requires { sound b.old }
-    ensures kept { sound b.new }
-    ensures same_loans { ties b.old b.new }
-    ensures same_side { edge b.new ≡ edge b.old }
-    ensures same_fits { fits b.new ≡ fits b.old }
-    ensures answer { result ≡ turn_answer (edge b.old) (fits b.old) (drawing b.old) y z l r }
-    ensures drawn { drawing b.new ≡ (if is_ok result then changed (edge b.old) (drawing b.old) y z l r else drawing b.old) }
+    requires { B.sound b.old }
+    ensures kept { B.sound b.new }
+    ensures same_loans { B.ties b.old b.new }
+    ensures same_side { B.edge b.new ≡ B.edge b.old }
+    ensures same_fits { B.fits b.new ≡ B.fits b.old }
+    ensures answer { result ≡ turn_answer (B.edge b.old) (B.fits b.old) (B.drawing b.old) y z l r }
+    ensures drawn { B.drawing b.new ≡ (if is_ok result then changed (B.edge b.old) (B.drawing b.old) y z l r else B.drawing b.old) }
 {
     match b.flip(y, z, l, r) {
         Ok(()) => b.look(l, y, z),

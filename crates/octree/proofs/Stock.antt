@@ -7,7 +7,7 @@ use Rattle.octree.specs.declared.cells.Child.TheVariants.{Empty, Solid, Split}
 use Rattle.octree.specs.declared.cells.Group.{Group}
 use Rattle.octree.specs.declared.cells.GroupId.{GroupId}
 use Rattle.octree.specs.declared.cells.Unused.{Unused}
-use Rattle.octree.specs.Trees.{no_group, one, has_group, index_of, freed_before, freed_at, idle, capacity}
+use Rattle.octree.specs.Trees.{no_group, one, index_of, freed_before, freed_at, idle, capacity}
 use Rattle.octree.specs.OnTheWay.{There, left, freed_last, Apart, Taken, Freed}
 use Rattle.octree.proofs.Trees.{one_self}
 

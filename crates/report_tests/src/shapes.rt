@@ -2,6 +2,7 @@
 
 use crate::expect::gives;
 use std::alloc::{AllocError, Global};
+use std::process::Abort;
 use std::test::*;
 
 /// The lines of a part: a tetrahedron with corners at `from` and at `to` on the x axis, and at `width` beside the first on y and on z.
@@ -16,7 +17,7 @@ fn tetrahedron(heap: Global, from: i32, to: i32, width: i32) -> Result<String, A
 
 /// Checks what is reported of a box of side 2 with one closed tetrahedron: the lines that come after that of the part.
 fn tetrahedron_gives(
-    rt: &HostRuntime,
+    rt: &(impl AllocGlobal + Abort),
     from: i32,
     to: i32,
     width: i32,

@@ -67,14 +67,13 @@ fn eleven_places_are_too_few(rt: HostRuntime) {
 fn without_a_face_a_side_is_odd(rt: HostRuntime) -> Result<(), Fail> {
     match check_sides(&tetrahedron()[0..3], &mut shelf()) {
         Closure::Odd(side) => {
-            assert!(rt;
-                side == Side {
-                    low: point(0, 0, 41),
-                    high: point(0, 41, 0),
-                }
-            );
+            let expected = Side {
+                low: point(0, 0, 41),
+                high: point(0, 41, 0),
+            };
+            assert!(rt; side == expected);
             Ok(())
-        },
+        }
         _ => Err(Fail::new("no side is odd")),
     }
 }
@@ -97,11 +96,10 @@ fn a_triangle_twice_closes(rt: HostRuntime) {
 
 #[test]
 fn two_equal_corners_close(rt: HostRuntime) {
-    assert!(rt;
-        closes(&[Triangle {
-            v0: point(1, 1, 1),
-            v1: point(1, 1, 1),
-            v2: point(2, 0, 0),
-        }],)
-    );
+    let flat = Triangle {
+        v0: point(1, 1, 1),
+        v1: point(1, 1, 1),
+        v2: point(2, 0, 0),
+    };
+    assert!(rt; closes(&[flat]));
 }

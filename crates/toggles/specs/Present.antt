@@ -1,8 +1,8 @@
 -- The keys of a toggle list.
-use Rattle.std.specs.Prelude.{ℕ, List, length, take}
+use Rattle.std.specs.Prelude.{◌≡◌, ℕ, List, length, take}
 use Rattle.toggles.specs.declared.list.Toggles.{Toggles}
 
--- the keys that are present
+-- the keys that are present: so many from the front of the lent slice
 abbrev pub present : {K : Type 0} → Toggles K → List K
 present t = take t.len t.keys.now
 
@@ -13,3 +13,11 @@ size t = t.len
 -- how many keys there is room for
 abbrev pub room : {K : Type 0} → Toggles K → ℕ
 room t = length t.keys.now
+
+-- what stands in the lent slice: the keys that are present, and then whatever the spare places hold
+abbrev pub lent : {K : Type 0} → Toggles K → List K
+lent t = t.keys.now
+
+-- the second list keeps its keys in the slice that the first was lent
+abbrev pub SameLoan : {K : Type 0} → Toggles K → Toggles K → Type 0
+SameLoan s t = t.keys.ghost_name ≡ s.keys.ghost_name

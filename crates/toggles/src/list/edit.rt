@@ -2,17 +2,19 @@
 ghost use Rattle.std.specs.Prelude.{◌≡◌, ◌+◌, ◌<◌, ◌≤◌, true, false, List, [], ◌∷◌, length};
 ghost use Rattle.std.specs.List.{insert, remove};
 ghost use Rattle.std.specs.Cmp.{IsTotalOrder};
-ghost use Rattle.toggles.specs.Present.{present, room, size};
+ghost use Rattle.toggles.specs.Present.{SameLoan, lent, present, room, size};
 ghost use Rattle.toggles.specs.Toggled.{Answered, Keeps};
 
 use super::Toggles;
 
 impl<'a, K: Ord + Copy> Toggles<'a, K> {
-    /// A list with no key present, and room for as many keys as the slice has places.
+    /// A list with no key present, and room for as many keys as the slice has places. Nothing is written.
     pub fn new(keys: &'a mut [K]) -> Self
         ensures empty { present result ≡ [] }
         ensures size { size result ≡ 0 }
         ensures room { room result ≡ length keys.old }
+        ensures loan { result.keys.ghost_name ≡ keys.entry.ghost_name }
+        ensures untouched { lent result ≡ keys.old }
     {
         Toggles { keys, len: 0 }
     }
@@ -21,6 +23,7 @@ impl<'a, K: Ord + Copy> Toggles<'a, K> {
     fn insert_at(&mut self, at: usize, key: K)
         requires { (at ≤ size self.old) × (size self.old < room self.old) }
         ensures room { room self.new ≡ room self.old }
+        ensures loan { SameLoan self.old self.new }
         ensures size { size self.new ≡ size self.old + 1 }
         ensures keys { present self.new ≡ insert (present self.old) at key }
     {
@@ -36,6 +39,7 @@ impl<'a, K: Ord + Copy> Toggles<'a, K> {
     fn remove_at(&mut self, at: usize)
         requires { at < size self.old }
         ensures room { room self.new ≡ room self.old }
+        ensures loan { SameLoan self.old self.new }
         ensures size { size self.new + 1 ≡ size self.old }
         ensures keys { present self.new ≡ remove (present self.old) at }
     {
@@ -50,6 +54,7 @@ impl<'a, K: Ord + Copy> Toggles<'a, K> {
     /// and every place is taken.
     pub fn toggle(&mut self, key: K) -> bool
         ensures room { room self.new ≡ room self.old }
+        ensures loan { SameLoan self.old self.new }
         ensures grows { size self.new ≤ size self.old + 1 }
         ensures refused { result ≡ false → (size self.old ≡ room self.old) × (self.new ≡ self.old) }
         ensures answered { Answered K.Ord.cmp (present self.old) (present self.new) (room self.old) key result }

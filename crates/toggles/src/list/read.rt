@@ -1,7 +1,7 @@
 //! What a toggle list can be asked.
 ghost use Rattle.std.specs.Prelude.{◌≡◌, length, ◌==◌};
 ghost use Rattle.std.specs.List.{slice_get};
-ghost use Rattle.toggles.specs.Present.{present, size};
+ghost use Rattle.toggles.specs.Present.{present, room, size};
 ghost use Rattle.toggles.specs.Search.{Place};
 ghost use Rattle.toggles.specs.Toggled.{Tells};
 
@@ -23,8 +23,8 @@ fn is_among<K: Ord>(keys: &[K], key: &K) -> bool
 }
 
 impl<'a, K: Ord + Copy> Toggles<'a, K> {
-    /// The keys present.
-    fn present(&self) -> &[K]
+    /// The keys present, which stand at the front of the lent slice.
+    pub fn present(&self) -> &[K]
         ensures { result.now ≡ present self.now }
     {
         &self.keys[0..self.len]
@@ -36,6 +36,13 @@ impl<'a, K: Ord + Copy> Toggles<'a, K> {
         ensures count { result ≡ length (present self.now) }
     {
         self.len
+    }
+
+    /// How many keys there is room for.
+    pub fn room(&self) -> usize
+        ensures { result ≡ room self.now }
+    {
+        self.keys.len()
     }
 
     /// Whether no key is present.

@@ -13,10 +13,10 @@ pub loop-t-preserved : goal.loop-t-preserved
 loop-t-preserved c =
     let ts = c.args.triangles.now in
     let i = c.loop-t.t-index in (
-      c.toggle-sides.ensures.room ∙ c.loop-t.invariant.0,
+      c.toggle_sides.ensures.room ∙ c.loop-t.invariant.0,
       omega arith,
-      subst (Holds (present c.toggle-sides.new.loose)) (sym (take_more ts i _ c.loop-t-test.true))
-          (c.toggle-sides.ensures.holds (take i ts) c.loop-t.invariant.2 c.if-not-toggle-sides.false),
+      subst (Holds (present c.toggle_sides.new.loose)) (sym (take_more ts i _ c.loop-t-test.true))
+          (c.toggle_sides.ensures.holds (take i ts) c.loop-t.invariant.2 c.if-not-toggle_sides.false),
     )
 
 pub returns : goal.returns
@@ -26,4 +26,4 @@ returns c =
     let ks = present c.loop-t.loose in
     let all : take c.loop-t.t-index ts ≡ ts = take_all c.loop-t.t-index ts (omega arith) in
     let h : Holds ks ts = subst (Holds ks) all c.loop-t.invariant.2 in
-    subst (Means ts n) (sym (c.told-by.ensures ∙ ap told_by c.get.ensures)) (told_means ks ts n (omega arith) h)
+    subst (Means ts n) (sym (c.told_by.ensures ∙ ap told_by c.get.ensures)) (told_means ks ts n (omega arith) h)

@@ -4,8 +4,8 @@ use Rattle.octree.specs.OnTheWay.{wants}
 use Rattle.octree.proofs.Settles.{blend_ext, settled_leaf, settled_split}
 use Rattle.octree.proofs.store.settle.Goals as goal
 
-pub group-for-id-requires : goal.group-for-id-requires
-group-for-id-requires c = record { apart = c.requires.apart; some = omega (arith, c.requires.some, ap wants (c.in-Mixed.ensures ∙ blend_ext _ _ c.kinds.ensures)) }
+pub group_for-id-requires : goal.group_for-id-requires
+group_for-id-requires c = record { apart = c.requires.apart; some = omega (arith, c.requires.some, ap wants (c.in-Mixed.ensures ∙ blend_ext _ _ c.kinds.ensures)) }
 
 pub returns-in-AllEmpty : goal.returns-in-AllEmpty
 returns-in-AllEmpty c = settled_leaf c.args.groups.now c.release.new.groups c.args.unused.now c.release.new.self c.args.region Empty c.args.children refl (c.in-AllEmpty.ensures ∙ blend_ext _ _ c.kinds.ensures) c.release.ensures
@@ -14,4 +14,4 @@ pub returns-in-AllSolid : goal.returns-in-AllSolid
 returns-in-AllSolid c = settled_leaf c.args.groups.now c.release-in-AllSolid.new.groups c.args.unused.now c.release-in-AllSolid.new.self c.args.region Solid c.args.children refl (c.in-AllSolid.ensures ∙ blend_ext _ _ c.kinds.ensures) c.release-in-AllSolid.ensures
 
 pub returns-in-Mixed : goal.returns-in-Mixed
-returns-in-Mixed c = settled_split c.args.groups.now c.write.new.groups c.args.unused.now c.group-for-id.new.self c.args.region c.group-for-id.result c.args.children c.requires.apart (c.in-Mixed.ensures ∙ blend_ext _ _ c.kinds.ensures) c.group-for-id.ensures c.write.ensures
+returns-in-Mixed c = settled_split c.args.groups.now c.write.new.groups c.args.unused.now c.group_for-id.new.self c.args.region c.group_for-id.result c.args.children c.requires.apart (c.in-Mixed.ensures ∙ blend_ext _ _ c.kinds.ensures) c.group_for-id.ensures c.write.ensures

@@ -7,13 +7,13 @@ use Rattle.octree.proofs.tree.+look.Goals as goal
 pub children-children-requires : goal.children-children-requires
 children-children-requires t c = readable_there c.args.groups.now c.args.level c.args.region c.requires
 
-pub overflow-sub-level : goal.overflow-sub-level
-overflow-sub-level t c = split_above c.args.groups.now c.args.level c.args.region c.requires.tight (ap has_group c.in-Split.is)
+pub overflow_sub-level : goal.overflow_sub-level
+overflow_sub-level t c = split_above c.args.groups.now c.args.level c.args.region c.requires.tight (ap has_group c.in-Split.is)
 
 pub look-requires : goal.look-requires
 look-requires t c =
     let l : 1 ≤ c.args.level = split_above c.args.groups.now c.args.level c.args.region c.requires.tight (ap has_group c.in-Split.is) in
-    (omega arith, readable_part c.args.groups.now (c.args.level - 1) c.args.level c.args.region c.children-children.result (omega arith) c.children-children.ensures c.requires c.child-of-child.result c.child-of-child.ensures.1)
+    (omega arith, readable_part c.args.groups.now (c.args.level - 1) c.args.level c.args.region c.children-children.result (omega arith) c.children-children.ensures c.requires c.child_of-child.result c.child_of-child.ensures.1)
 
 pub returns-in-Empty : goal.returns-in-Empty
 returns-in-Empty t c = sym (ap (λ (r : Child). solid_at c.args.groups.now c.args.level r c.args.cell) c.in-Empty.is ∙ empty_dark c.args.groups.now c.args.level c.args.cell)
@@ -24,5 +24,5 @@ returns-in-Solid t c = sym (ap (λ (r : Child). solid_at c.args.groups.now c.arg
 pub returns-in-Split : goal.returns-in-Split
 returns-in-Split t c =
     let l : 1 ≤ c.args.level = split_above c.args.groups.now c.args.level c.args.region c.requires.tight (ap has_group c.in-Split.is) in
-    look_step c.args.groups.now (c.args.level - 1) c.args.level c.width-of-half.result c.child-of-child.result c.args.region c.children-children.result c.args.cell c.inner.result c.look.result
-    (omega arith) c.width-of-half.ensures.0 c.children-children.ensures c.child-of-child.ensures.0 c.inner.ensures c.look.ensures
+    look_step c.args.groups.now (c.args.level - 1) c.args.level c.width_of-half.result c.child_of-child.result c.args.region c.children-children.result c.args.cell c.inner.result c.look.result
+    (omega arith) c.width_of-half.ensures.0 c.children-children.ensures c.child_of-child.ensures.0 c.inner.ensures c.look.ensures

@@ -9,7 +9,7 @@ pub returns-then-run : goal.returns-then-run
 returns-then-run t c = plan_none c.args.groups.now c.args.level c.args.region c.args.run c.kind.result c.requires.readable.tight c.if-run.true c.kind.ensures
 
 pub returns-then-level-eq0 : goal.returns-then-level-eq0
-returns-then-level-eq0 t c = plan_cell c.args.groups.now c.args.level c.args.region c.args.run _ c.if-level-eq0.true c.requires.readable.tight c.requires.lies c.if-run.false (c.kind-then-level-eq0.ensures ∙ ap kind_of c.turned-over.ensures)
+returns-then-level-eq0 t c = plan_cell c.args.groups.now c.args.level c.args.region c.args.run _ c.if-level-eq0.true c.requires.readable.tight c.requires.lies c.if-run.false (c.kind-then-level-eq0.ensures ∙ ap kind_of c.turned_over.ensures)
 
 pub children-children-requires : goal.children-children-requires
 children-children-requires t c = readable_there c.args.groups.now c.args.level c.args.region c.requires.readable
@@ -32,17 +32,17 @@ plan-higher-requires t c = (
   ),
 )
 
-pub overflow-add-result : goal.overflow-add-result
-overflow-add-result t c = omega (arith, width_low (c.args.level - 1) (omega arith), c.plan-lower.ensures.few_before, c.plan-higher.ensures.few_before)
+pub overflow_add-result : goal.overflow_add-result
+overflow_add-result t c = omega (arith, width_low (c.args.level - 1) (omega arith), c.plan-lower.ensures.few_before, c.plan-higher.ensures.few_before)
 
-pub overflow-add-result-2 : goal.overflow-add-result-2
-overflow-add-result-2 t c = omega (arith, width_low (c.args.level - 1) (omega arith), c.plan-lower.ensures.few_before, c.plan-higher.ensures.few_before)
+pub overflow_add-result-2 : goal.overflow_add-result-2
+overflow_add-result-2 t c = omega (arith, width_low (c.args.level - 1) (omega arith), c.plan-lower.ensures.few_before, c.plan-higher.ensures.few_before)
 
-pub overflow-add-result-3 : goal.overflow-add-result-3
-overflow-add-result-3 t c = omega (arith, width_low (c.args.level - 1) (omega arith), c.plan-lower.ensures.few_after, c.plan-higher.ensures.few_after)
+pub overflow_add-result-3 : goal.overflow_add-result-3
+overflow_add-result-3 t c = omega (arith, width_low (c.args.level - 1) (omega arith), c.plan-lower.ensures.few_after, c.plan-higher.ensures.few_after)
 
-pub overflow-add-result-4 : goal.overflow-add-result-4
-overflow-add-result-4 t c = omega (arith, width_low (c.args.level - 1) (omega arith), c.plan-lower.ensures.few_after, c.plan-higher.ensures.few_after)
+pub overflow_add-result-4 : goal.overflow_add-result-4
+overflow_add-result-4 t c = omega (arith, width_low (c.args.level - 1) (omega arith), c.plan-lower.ensures.few_after, c.plan-higher.ensures.few_after)
 
 pub returns : goal.returns
 returns t c =

@@ -15,11 +15,11 @@ plan-higher-requires c = record {
   lies = part_lies_in (c.args.level - 1) c.args.level c.args.run _ c.halves.result.1 (omega arith) c.halves.ensures.parts.1 c.requires.lies;
 }
 
-pub overflow-add-lower : goal.overflow-add-lower
-overflow-add-lower c = omega (arith, width_low (c.args.level - 1) (omega arith), c.plan-lower.ensures.few_after, c.plan-higher.ensures.few_before)
+pub overflow_add-lower : goal.overflow_add-lower
+overflow_add-lower c = omega (arith, width_low (c.args.level - 1) (omega arith), c.plan-lower.ensures.few_after, c.plan-higher.ensures.few_before)
 
-pub overflow-add-higher : goal.overflow-add-higher
-overflow-add-higher c = omega (arith, width_low (c.args.level - 1) (omega arith), c.plan-higher.ensures.few_after, c.plan-lower.ensures.few_before)
+pub overflow_add-higher : goal.overflow_add-higher
+overflow_add-higher c = omega (arith, width_low (c.args.level - 1) (omega arith), c.plan-higher.ensures.few_after, c.plan-lower.ensures.few_before)
 
 pub returns-then-lower-higher : goal.returns-then-lower-higher
 returns-then-lower-higher c = record {

@@ -9,13 +9,13 @@ pub returns-then-run : goal.returns-then-run
 returns-then-run t c = moved_none c.args.groups.now c.args.unused.now c.args.level c.args.region c.args.run c.requires c.if-run.true
 
 pub returns-then-level-eq0 : goal.returns-then-level-eq0
-returns-then-level-eq0 t c = moved_cell c.args.groups.now c.args.unused.now c.args.level c.args.region c.turned-over.result c.args.run c.if-level-eq0.true c.requires c.if-run.false c.turned-over.ensures
+returns-then-level-eq0 t c = moved_cell c.args.groups.now c.args.unused.now c.args.level c.args.region c.turned_over.result c.args.run c.if-level-eq0.true c.requires c.if-run.false c.turned_over.ensures
 
 pub children-children-requires : goal.children-children-requires
 children-children-requires t c = readable_there c.args.groups.now c.args.level c.args.region (ready_readable c.args.groups.now c.args.unused.now c.args.level c.args.region c.args.run c.requires)
 
-pub in-order-requires : goal.in-order-requires
-in-order-requires t c = record {
+pub in_order-requires : goal.in_order-requires
+in_order-requires t c = record {
   level = (omega arith, omega arith);
   readable = readable_part c.args.groups.now (c.args.level - 1) c.args.level c.args.region c.children-children.result (omega arith) c.children-children.ensures (ready_readable c.args.groups.now c.args.unused.now c.args.level c.args.region c.args.run c.requires);
   lies = c.requires.lies;
@@ -26,8 +26,8 @@ turn-requires t c =
     let up : c.args.level ≡ suc (c.args.level - 1) = omega arith in
     let eight : length c.children-children.result ≡ 8 = search rules in (
       omega arith,
-      first_ready c.args.groups.now c.args.unused.now (c.args.level - 1) c.args.region c.args.run c.in-order.result.0 c.in-order.result.1 c.children-children.result c.children-children.ensures eight
-          (subst (λ m. Ready c.args.groups.now c.args.unused.now m c.args.region c.args.run) up c.requires) c.in-order.ensures.order,
+      first_ready c.args.groups.now c.args.unused.now (c.args.level - 1) c.args.region c.args.run c.in_order.result.0 c.in_order.result.1 c.children-children.result c.children-children.ensures eight
+          (subst (λ m. Ready c.args.groups.now c.args.unused.now m c.args.region c.args.run) up c.requires) c.in_order.ensures.order,
     )
 
 pub turn-requires-2 : goal.turn-requires-2
@@ -35,8 +35,8 @@ turn-requires-2 t c =
     let up : c.args.level ≡ suc (c.args.level - 1) = omega arith in
     let eight : length c.children-children.result ≡ 8 = search rules in (
       omega arith,
-      second_ready c.args.groups.now c.args.unused.now (c.args.level - 1) c.args.region c.args.run c.in-order.result.0 c.in-order.result.1 c.children-children.result c.children-children.ensures eight
-          (subst (λ m. Ready c.args.groups.now c.args.unused.now m c.args.region c.args.run) up c.requires) c.in-order.ensures.order
+      second_ready c.args.groups.now c.args.unused.now (c.args.level - 1) c.args.region c.args.run c.in_order.result.0 c.in_order.result.1 c.children-children.result c.children-children.ensures eight
+          (subst (λ m. Ready c.args.groups.now c.args.unused.now m c.args.region c.args.run) up c.requires) c.in_order.ensures.order
           c.turn.new.groups c.turn.new.unused c.turn.result c.turn.ensures,
     )
 
@@ -46,9 +46,9 @@ settle-requires t c =
     let eight : length c.children-children.result ≡ 8 = search rules in
     let R : Ready c.args.groups.now c.args.unused.now (suc (c.args.level - 1)) c.args.region c.args.run = subst (λ m. Ready c.args.groups.now c.args.unused.now m c.args.region c.args.run) up c.requires in
     record {
-      apart = settle_apart c.args.groups.now c.args.unused.now (c.args.level - 1) c.args.region c.args.run c.in-order.result.0 c.in-order.result.1 c.children-children.result c.children-children.ensures eight R c.in-order.ensures.order
+      apart = settle_apart c.args.groups.now c.args.unused.now (c.args.level - 1) c.args.region c.args.run c.in_order.result.0 c.in_order.result.1 c.children-children.result c.children-children.ensures eight R c.in_order.ensures.order
           c.turn.new.groups c.turn.new.unused c.turn.result c.turn.ensures c.turn-2.new.groups c.turn-2.new.unused c.turn-2.result c.turn-2.ensures;
-      some = settle_some c.args.groups.now c.args.unused.now (c.args.level - 1) c.args.region c.args.run c.in-order.result.0 c.in-order.result.1 c.children-children.result c.children-children.ensures eight R c.in-order.ensures.order
+      some = settle_some c.args.groups.now c.args.unused.now (c.args.level - 1) c.args.region c.args.run c.in_order.result.0 c.in_order.result.1 c.children-children.result c.children-children.ensures eight R c.in_order.ensures.order
           c.turn.new.groups c.turn.new.unused c.turn.result c.turn.ensures c.turn-2.new.groups c.turn-2.new.unused c.turn-2.result c.turn-2.ensures;
     }
 
@@ -57,6 +57,6 @@ returns t c =
     let up : c.args.level ≡ suc (c.args.level - 1) = omega arith in
     let eight : length c.children-children.result ≡ 8 = search rules in
     subst (λ m. Moved c.args.groups.now c.args.unused.now m c.args.region (flipped c.args.run (solid_at c.args.groups.now m c.args.region)) c.settle.new.groups c.settle.new.unused c.settle.result) (sym up)
-    (turned c.args.groups.now c.args.unused.now (c.args.level - 1) c.args.region c.args.run c.in-order.result.0 c.in-order.result.1 c.children-children.result c.children-children.ensures eight
-    (subst (λ m. Ready c.args.groups.now c.args.unused.now m c.args.region c.args.run) up c.requires) c.in-order.ensures.order
+    (turned c.args.groups.now c.args.unused.now (c.args.level - 1) c.args.region c.args.run c.in_order.result.0 c.in_order.result.1 c.children-children.result c.children-children.ensures eight
+    (subst (λ m. Ready c.args.groups.now c.args.unused.now m c.args.region c.args.run) up c.requires) c.in_order.ensures.order
     c.turn.new.groups c.turn.new.unused c.turn.result c.turn.ensures c.turn-2.new.groups c.turn-2.new.unused c.turn-2.result c.turn-2.ensures c.settle.new.groups c.settle.new.unused c.settle.result c.settle.ensures)

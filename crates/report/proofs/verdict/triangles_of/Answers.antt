@@ -6,7 +6,7 @@ use Rattle.report.proofs.verdict.triangles_of.Goals as goal
 pub loop-facet-preserved : goal.loop-facet-preserved
 loop-facet-preserved c =
     let i = c.loop-facet.facet-index in let fs = c.args.facets.now in let f = c.facet-item.result in
-    c.in-ok-push.ensures.items ∙ ap (λ xs. xs ++ (c.triangle.result ∷ [])) c.loop-facet.invariant
+    c.in_ok-push.ensures.items ∙ ap (λ xs. xs ++ (c.triangle.result ∷ [])) c.loop-facet.invariant
     ∙ ap (λ t. map triangle_of (take i fs) ++ (t ∷ [])) (c.triangle.ensures ∙ ap triangle_of c.facet-item.is)
     ∙ sym (ap (map triangle_of) (take_more fs i f c.loop-facet-test.true) ∙ map-append triangle_of (take i fs) _)
 

@@ -11,10 +11,10 @@ read-group-requires c = own_within c.args.groups.now c.args.self.now (Split c.ar
 pub write-requires : goal.write-requires
 write-requires c = own_within c.args.groups.now c.args.self.now (Split c.args.id) c.requires
 
-pub count-freed-requires : goal.count-freed-requires
-count-freed-requires c = omega (arith, c.requires.few)
+pub count_freed-requires : goal.count_freed-requires
+count_freed-requires c = omega (arith, c.requires.few)
 
 pub returns : goal.returns
 returns c =
-    subst (λ (u : Unused). Freed c.args.groups.now c.args.self.now (Split c.args.id) c.write.new.groups u) (sym c.count-freed.ensures)
+    subst (λ (u : Unused). Freed c.args.groups.now c.args.self.now (Split c.args.id) c.write.new.groups u) (sym c.count_freed.ensures)
     (freed_again c.args.groups.now c.write.new.groups c.args.self.now c.args.id c.read-group.result.children c.requires (omega arith) c.write.ensures)

@@ -11,6 +11,7 @@ returns g c =
     let n = length-set zs at x in
     record {
       room = n ∙ c.loop-i.invariant.1;
+      loan = c.loop-i.invariant.5;
       size = refl {a = t.len + 1};
       keys = put_in t.keys.now (set zs at x) at t.len t.within x (omega arith) (omega arith)
           (λ k d h. let ne : k ≢ at = omega arith in get_or-set_other zs at k x d ne ∙ c.loop-i.invariant.3 k d (omega arith))

@@ -7,6 +7,7 @@ returns g c =
     let t = c.args.self.now in
     record {
       room = c.loop-i.invariant.0;
+      loan = c.loop-i.invariant.5;
       size = omega arith;
       keys = taken_out t.keys.now c.loop-i.self.keys.now c.args.at t.len t.within (omega arith) (omega (arith, t.within))
           c.loop-i.invariant.2

@@ -12,6 +12,7 @@ returns-then-self g c =
     let a = full_answers k (present t) c.in-Err.at (room t) c.in-Err.ensures (omega (arith, t.within)) in
     record {
       room = refl {a = room t};
+      loan = refl {a = t.keys.ghost_name};
       grows = omega arith;
       refused = λ _. (omega (arith, t.within), refl {a = t});
       answered = a;
@@ -26,6 +27,7 @@ returns-in-Ok g c =
     let a = cut_answers k (present t) c.in-Ok.at (room t) ns c.in-Ok.ensures c.remove_at.ensures.keys in
     record {
       room = c.remove_at.ensures.room;
+      loan = c.remove_at.ensures.loan;
       grows = omega arith;
       refused = λ e. absurd (true≢false e);
       answered = a;
@@ -43,6 +45,7 @@ returns-else-self g c =
     let a = put_answers k (present t) c.in-Err.at (room t) (present u) c.in-Err.ensures l c.insert_at.ensures.keys in
     record {
       room = c.insert_at.ensures.room;
+      loan = c.insert_at.ensures.loan;
       grows = omega arith;
       refused = λ e. absurd (true≢false e);
       answered = a;
