@@ -1,13 +1,7 @@
-use Rattle.std.proofs.Common.{◌≡◌, ◌+◌, ◌-◌, ◌<◌, length, take, sym, refl, ap, ◌∙◌, arith}
-use Rattle.std.proofs.lemmas.List.{take_all}
+use Rattle.std.proofs.Common.{◌≡◌, ◌+◌, ◌-◌, ◌<◌, length, take, ap, ◌∙◌, arith}
 use Rattle.flips.specs.Drawn.{drawn}
 use Rattle.flips.proofs.Made.{made_again}
 use Rattle.flips.proofs.list.undo_flips.Goals as goal
-
-pub loop-i-init : goal.loop-i-init
-loop-i-init g c =
-    let all = take_all (length c.args.flips.now) c.args.flips.now (omega arith) in
-    (c.requires.sound, g.B.Block.ties_same c.args.block.now, refl, refl, λ d fit way now. now ∙ ap (drawn (g.B.Block.edge c.args.block.now) d) (sym all))
 
 pub loop-i-preserved : goal.loop-i-preserved
 loop-i-preserved g c =
