@@ -118,14 +118,14 @@ fn expected_look(n: usize, cells: &[bool], cell: Cell) -> u8
 
 /// Whether a look at the cell answers as it should.
 fn is_as_expected<B: Block>(block: &B, n: usize, cells: &[bool], cell: Cell) -> bool
-    requires { (sound block.now) × (n ≤ 64) }
+    requires { (B.sound block.now) × (n ≤ 64) }
 {
     looked(block.look(cell.x, cell.y, cell.z)) == expected_look(n, cells, cell)
 }
 
 /// Whether the block has the side and every cell of the plain list.
 fn is_same<B: Block>(block: &B, n: usize, cells: &[bool]) -> bool
-    requires { (sound block.now) × ((0 < n) × (n ≤ 64)) }
+    requires { (B.sound block.now) × ((0 < n) × (n ≤ 64)) }
 {
     for k in 0..cells.len() {
         if !is_as_expected(block, n, cells, cell_of(n, k)) {
@@ -143,8 +143,8 @@ fn step<B: Block>(
     random: &mut Random,
     tally: &mut Tally,
 )
-    requires { (sound block.old) × ((0 < trial.n) × (trial.n ≤ 64)) }
-    ensures { sound block.new }
+    requires { (B.sound block.old) × ((0 < trial.n) × (trial.n ≤ 64)) }
+    ensures { B.sound block.new }
 {
     let run = random_run(random, trial.n);
     let cell = random_cell(random, trial.n);
@@ -158,7 +158,7 @@ fn step<B: Block>(
 
 /// Drives a blank block and blank plain cells by the same flips.
 pub fn drive<B: Block>(block: &mut B, trial: Trial, cells: &mut [bool]) -> Tally
-    requires { (sound block.old) × ((0 < trial.n) × (trial.n ≤ 64)) }
+    requires { (B.sound block.old) × ((0 < trial.n) × (trial.n ≤ 64)) }
 {
     let mut random = Random::new(1);
     let mut tally = Tally::new();

@@ -1,6 +1,6 @@
 -- What a toggle of a place answers, and leaves.
-use Rattle.std.proofs.Common.{◌≡◌, ℕ, ◌+◌, ◌<◌, ◌≤◌, Bool, true, false, cond, not, ◌||◌, eqb, ltb, List, length, MatchBool, Ordering, sym, refl, ap, ◌∙◌, subst, true≢false, arith}
-use Rattle.std.specs.Ordering.{eq_by_cmp, MatchOrdering, nat_cmp}
+use Rattle.std.proofs.Common.{◌≡◌, ℕ, ◌+◌, ◌<◌, ◌≤◌, Bool, true, false, cond, not, ◌||◌, eqb, ltb, List, length, MatchBool, sym, refl, ap, ◌∙◌, subst, true≢false, arith}
+use Rattle.std.specs.Ordering.{eq_by_cmp, nat_cmp}
 use Rattle.std.specs.Cmp.{nat_cmp_total, unsigned_tied}
 use Rattle.std.specs.List.Sorted.{IsStrictlyIncreasing}
 use Rattle.std.proofs.lemmas.List.Edits.{length-insert, length-remove}
@@ -11,12 +11,8 @@ use Rattle.toggles.specs.Toggled.{Answered, PutIn, TakenOut, Tells, Toggled, has
 use Rattle.spans.proofs.Counts.{but, one}
 use Rattle.spans.proofs.PlaceLaws.{has_by}
 
--- the order of the places
-abbrev Order : ℕ → ℕ → Ordering → Type 0
-Order x y r = MatchOrdering r (x < y) (x ≡ y) (y < x)
-
 -- whether a place is kept, as a list of places tells it
-pub tells_place : (ps : List ℕ) (p : ℕ) (r : Bool) → Tells Order ps p r → IsStrictlyIncreasing ps → r ≡ has eqb ps p
+pub tells_place : (ps : List ℕ) (p : ℕ) (r : Bool) → Tells nat_cmp ps p r → IsStrictlyIncreasing ps → r ≡ has eqb ps p
 tells_place ps p r t up = t.tells nat_cmp_total (sorted_from_strictly_increasing ps up) ∙ has_by ps p
 
 -- a test that one number turns
@@ -28,7 +24,7 @@ turn false true v e = absurd (true≢false (sym e))
 turn false false true e = refl
 turn false false false e = refl
 
-module _ (ps qs : List ℕ) (n p : ℕ) (r : Bool) (a : Answered Order ps qs n p r) (up : IsStrictlyIncreasing ps) where
+module _ (ps qs : List ℕ) (n p : ℕ) (r : Bool) (a : Answered nat_cmp ps qs n p r) (up : IsStrictlyIncreasing ps) where
   -- it is refused only where the place is new and there is no room
   pub toggle_answer : r ≡ (has eqb ps p || ltb (length ps) n)
   toggle_answer = a.answer nat_cmp_total (sorted_from_strictly_increasing ps up) ∙ ap (λ b. b || ltb (length ps) n) (has_by ps p)
@@ -71,7 +67,7 @@ second_goes : (b : Bool) (len next n : ℕ) → len ≤ n → (b ≡ false → l
 second_goes true len next n l h e = omega arith
 second_goes false len next n l h e = omega (arith, h refl)
 
-module _ (ps qs rs : List ℕ) (n m p q : ℕ) (r s : Bool) (a : Answered Order ps qs n p r) (b : Answered Order qs rs m q s)
+module _ (ps qs rs : List ℕ) (n m p q : ℕ) (r s : Bool) (a : Answered nat_cmp ps qs n p r) (b : Answered nat_cmp qs rs m q s)
     (up : IsStrictlyIncreasing ps) (same : m ≡ n) (within : length ps ≤ n) (fits : has eqb ps p ≡ false → length ps + 2 ≤ n) where
   first_done : r ≡ true
   first_done = toggle_answer ps qs n p r a up ∙ first_goes (has eqb ps p) (length ps) n fits

@@ -3,7 +3,9 @@ use Rattle.std.specs.Prelude.{◌≡◌, ℕ, zero, suc, ◌≤◌, Bool, true, 
 use Rattle.std.proofs.Common.{◌∙◌, arith}
 use Rattle.std.proofs.lemmas.Bool.{le-leb, le-ltb, and_left}
 use Rattle.block.specs.Drawing.{blank}
-use Rattle.toggles.proofs.Sizes.{size_room}
+use Rattle.toggles.specs.declared.list.Toggles.{Toggles}
+use Rattle.toggles.specs.Present.{present, room}
+use Rattle.toggles.proofs.Sizes.{length_present}
 use Rattle.spans.specs.declared.Spans.{Spans}
 use Rattle.spans.specs.Changes.{ChangePlaces, changes, count, differs}
 use Rattle.spans.specs.Shown.{odd, shown, upto}
@@ -24,9 +26,13 @@ blank_fits b = le-leb (changes (volume_of b) blank) (length (lent_to b)) (omega 
 pub listed_fits : (m n : ℕ) (d : ℕ → Bool) (ps : List ℕ) → ChangePlaces m d ps → length ps ≤ n → nat_le (changes m d) n ≡ true
 listed_fits m n d ps h l = le-leb (changes m d) n (omega (arith, h.many))
 
+-- the keys of a toggle list have room there
+pub within_room : {K : Type 0} (t : Toggles K) → length (present t) ≤ room t
+within_room t = let l = t.within in omega (arith, length_present t)
+
 -- the present drawing fits
 pub kept_fits : (b : Spans) → Sound b → fits_in b (drawing_of b) ≡ true
-kept_fits b h = listed_fits (volume_of b) (length (lent_to b)) (drawing_of b) (places_of b) h.listed (size_room b.list)
+kept_fits b h = listed_fits (volume_of b) (length (lent_to b)) (drawing_of b) (places_of b) h.listed (within_room b.list)
 
 -- no cell outside the box is solid
 pub shown_within : (m : ℕ) (ps : List ℕ) (k : ℕ) → m ≤ k → shown m ps k ≡ false

@@ -10,5 +10,5 @@ returns c =
     let b = c.args.self.now in
     let k = c.args.k in
     let same = c.places.ensures.front in
-    odd_shown (volume_of b) k c.count-upto.result (places_of b) c.requires.within
-    (c.count-upto.ensures (subst IsStrictlyIncreasing (sym same) c.requires.sound.listed.rising) ∙ ap (λ ps. upto ps k) same)
+    odd_shown (volume_of b) k c.count_upto.result (places_of b) c.requires.within
+    (c.count_upto.ensures (subst IsStrictlyIncreasing (sym same) c.requires.sound.listed.rising) ∙ ap (λ ps. upto ps k) same)

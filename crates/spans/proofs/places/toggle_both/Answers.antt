@@ -5,8 +5,8 @@ use Rattle.spans.proofs.StepLaws.{tells_place}
 use Rattle.spans.proofs.places.toggle_both.Goals as goal
 use Rattle.spans.proofs.places.toggle_both.Goals.{else-not-has-via-then-not-has+else-room-len-lt2, else-not-has-via-else-not-has}
 
-pub toggle-in-turn-requires : goal.toggle-in-turn-requires
-toggle-in-turn-requires c =
+pub toggle_in_turn-requires : goal.toggle_in_turn-requires
+toggle_in_turn-requires c =
     let b = tells_place (present c.args.list.now) c.args.b _ c.has.ensures c.requires in
     record { rising = c.requires; fits = λ e. absurd (true≢false (sym c.if-has.true ∙ b ∙ e)) }
 
@@ -23,8 +23,8 @@ returns-then-room-len-lt2 c =
       refused = λ _. (refl {a = t}, sym a ∙ c.if-not-has.true, sym b ∙ c.if-has.false, omega arith);
     }
 
-pub toggle-in-turn-requires-2 : goal.toggle-in-turn-requires-2
-toggle-in-turn-requires-2 c =
+pub toggle_in_turn-requires-2 : goal.toggle_in_turn-requires-2
+toggle_in_turn-requires-2 c =
     let a = tells_place (present c.args.list.now) c.args.a _ c.has-2.ensures c.requires in
     record {
       rising = c.requires;

@@ -1,6 +1,6 @@
 use Rattle.std.proofs.Common.{◌∙◌}
 use Rattle.toggles.specs.Present.{present, room}
-use Rattle.toggles.proofs.Sizes.{size_room}
+use Rattle.spans.specs.Laws.{within_room}
 use Rattle.spans.proofs.StepLaws.{turn_has, turn_rises}
 use Rattle.spans.proofs.places.toggle_in_turn.Goals as goal
 
@@ -11,7 +11,7 @@ returns c =
     let v = c.toggle-2.new.self in
     let a = c.toggle.ensures.answered in
     let b = c.toggle-2.ensures.answered in
-    let within = size_room t in
+    let within = within_room t in
     record {
       room = c.toggle-2.ensures.room ∙ c.toggle.ensures.room;
       loan = c.toggle-2.ensures.loan ∙ c.toggle.ensures.loan;
