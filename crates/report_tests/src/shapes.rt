@@ -3,7 +3,7 @@
 use crate::expect::gives;
 use std::alloc::{AllocError, Global};
 use std::process::Abort;
-use std::test::*;
+use std::test::Fail;
 
 /// The lines of a part: a tetrahedron with corners at `from` and at `to` on the x axis, and at `width` beside the first on y and on z.
 /// Its slope meets the row through the first cell's centre, where y and z are 8, at from + (to − from) (width − 16) / width.

@@ -3,7 +3,7 @@
 use crate::expect::gives;
 use std::alloc::{AllocError, Global};
 use std::process::Abort;
-use std::test::*;
+use std::test::Fail;
 
 /// The lines of a part: the box between two corners, in eight points and twelve triangles. The number of a point is 1 at the low corner,
 /// and 1 more at the high x, 2 more at the high y and 4 more at the high z.
