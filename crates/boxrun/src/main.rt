@@ -22,7 +22,7 @@ fn read_input(rt: &HostRuntime) -> anyhow::Result<Vec<u8>> {
 fn run(rt: &HostRuntime) -> anyhow::Result<()> {
     let text = read_input(rt)?;
     let out = report(rt.alloc(), text.as_slice())?;
-    rt.print(out.as_str())?;
+    print!(rt; "{out}")?;
     Ok(())
 }
 

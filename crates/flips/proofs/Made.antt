@@ -7,7 +7,7 @@ use Rattle.refusals.specs.declared.Refusal.TheVariants.{NoSand}
 use Rattle.block.specs.Drawing.{number, in_row, flip_refusal, refusal_of}
 use Rattle.block.proofs.Turns.{turned_twice}
 use Rattle.flips.specs.declared.list.Flip.{Flip}
-use Rattle.flips.specs.Drawn.{flipped, drawn, all_fit, flips_answer, InBox}
+use Rattle.flips.specs.Drawn.{flipped, drawn, all_fit, InBox}
 
 -- a flip made twice
 pub flipped_twice : (n : ℕ) (d : ℕ → Bool) (f : Flip) → flipped n (flipped n d f) f ≡ d
@@ -52,21 +52,6 @@ module _ (n : ℕ) (F : (ℕ → Bool) → Bool) where
 
 pub fit_moved : {m n : ℕ} {G F : (ℕ → Bool) → Bool} (d : ℕ → Bool) (fs : List Flip) → m ≡ n → G ≡ F → all_fit m G d fs ≡ all_fit n F d fs
 fit_moved {m} {n} {G} {F} d fs p q = ap (λ k. all_fit k G d fs) p ∙ ap (λ (K : (ℕ → Bool) → Bool). all_fit n K d fs) q
-
--- what an answer tells
-pub answer_ok : (n : ℕ) (F : (ℕ → Bool) → Bool) (d : ℕ → Bool) (fs : List Flip) (k : ℕ) → Ok k ≡ flips_answer n F d fs → (all_fit n F d fs ≡ true) × (k ≡ length fs)
-answer_ok n F d fs k = by (all_fit n F d fs)
-  where
-    by : (b : Bool) → Ok k ≡ cond b (Ok (length fs)) (Err NoSand) → (b ≡ true) × (k ≡ length fs)
-    by true e = (refl, cc)
-    by false e = let z : ◌≡◌ {A = ℕ} 0 1 = cc in absurd (omega arith)
-
-pub answer_err : (n : ℕ) (F : (ℕ → Bool) → Bool) (d : ℕ → Bool) (fs : List Flip) (r : Refusal) → Err r ≡ flips_answer n F d fs → (all_fit n F d fs ≡ false) × (r ≡ NoSand)
-answer_err n F d fs r = by (all_fit n F d fs)
-  where
-    by : (b : Bool) → Err r ≡ cond b (Ok (length fs)) (Err NoSand) → (b ≡ false) × (r ≡ NoSand)
-    by true e = let z : ◌≡◌ {A = ℕ} 0 1 = cc in absurd (omega arith)
-    by false e = (refl, cc)
 
 -- ---- one flip of a block
 

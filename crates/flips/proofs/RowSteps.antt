@@ -4,7 +4,7 @@ use Rattle.std.proofs.lemmas.List.{length-append}
 use Rattle.std.proofs.lemmas.Bool.{cond-true, cond-false, cases_Bool, both_ways, and_parts, and_from, and_right}
 use Rattle.flips.specs.declared.list.Flip.{Flip}
 use Rattle.flips.specs.Flips.{flips_of, first_rows}
-use Rattle.flips.specs.Drawn.{drawn, all_fit, InBox, ChangedWhere, RowsMade, RowsStand}
+use Rattle.flips.specs.Drawn.{drawn, all_fit, InBox, ChangedWhere, RowsMade}
 use Rattle.flips.proofs.Made.{drawn_append, all_fit_append, fits_end, fit_moved}
 use Rattle.flips.proofs.Cells.{flips_change}
 use Rattle.flips.proofs.Rows.{row_in_box, row_y, row_z, numbered, rows_all, rows_more}
@@ -83,7 +83,3 @@ module _ (n : ℕ) (solid : ℕ → ℕ → ℕ → Bool) (F : (ℕ → Bool) �
   -- some row is refused
   pub none_made : (i : ℕ) (e : ℕ → Bool) → all_fit n F d (flips_of n solid) ≡ false → RowsMade n F solid d e (Err i)
   none_made i e broken = sym (cond-false (all_fit n F d (flips_of n solid)) _ _ broken)
-
-pub stand_moved : {m n : ℕ} {G F : (ℕ → Bool) → Bool} (solid : ℕ → ℕ → ℕ → Bool) (d e : ℕ → Bool) (i : ℕ) → m ≡ n → G ≡ F → RowsStand n F solid d e (Err i) → RowsStand m G solid d e (Err i)
-stand_moved {m} {n} {G} {F} solid d e i side fits h =
-    subst (λ (k : ℕ). RowsStand k G solid d e (Err i)) (sym side) (subst (λ (K : (ℕ → Bool) → Bool). RowsStand n K solid d e (Err i)) (sym fits) h)

@@ -1,5 +1,5 @@
 -- The longest runs of solid cells in a row of n cells, where solid tells which cells are.
-use Rattle.std.specs.Prelude.{◌≡◌, ℕ, zero, suc, ◌+◌, ◌<◌, ◌≤◌, Bool, true, false, cond, List, [], ◌∷◌, length, get_or, ◌==◌, slice_index_or}
+use Rattle.std.specs.Prelude.{◌≡◌, ℕ, zero, suc, ◌+◌, ◌<◌, ◌≤◌, Bool, true, false, cond, List, [], ◌∷◌, length, ◌==◌, slice_index_or}
 use Rattle.rows.specs.declared.Run.{Run}
 
 -- a longest run: all its cells are solid, and the cell on either side of it is not, or lies outside the row
@@ -36,4 +36,4 @@ runs solid x (suc k) = cond (solid x) (led x (runs solid (x + 1) k)) (runs solid
 
 -- the runs of a row whose cells are told one by one
 abbrev pub told_runs : List Bool → List Run
-told_runs cells = runs (λ x. get_or cells x false) 0 (length cells)
+told_runs cells = runs (λ x. slice_index_or cells x false) 0 (length cells)

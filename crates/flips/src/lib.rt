@@ -27,13 +27,13 @@ pub trait RowSource {
 
 /// Makes the flips of the first `count` rows again, the last first, from rows that are computed again: the drawing before them comes back.
 fn undo_rows<B: Block, S: RowSource>(block: &mut B, source: &S, count: usize)
-    requires sound { sound block.old }
-    requires within { count ≤ edge block.old * edge block.old }
-    ensures kept { sound block.new }
-    ensures same_loans { ties block.old block.new }
-    ensures same_side { edge block.new ≡ edge block.old }
-    ensures same_fits { fits block.new ≡ fits block.old }
-    ensures back { (d : ℕ → Bool) → fits block.old d ≡ true → all_fit (edge block.old) (fits block.old) d (first_rows (edge block.old) (solid source.now) count) ≡ true → drawing block.old ≡ drawn (edge block.old) d (first_rows (edge block.old) (solid source.now) count) → drawing block.new ≡ d }
+    requires sound { B.sound block.old }
+    requires within { count ≤ B.edge block.old * B.edge block.old }
+    ensures kept { B.sound block.new }
+    ensures same_loans { B.ties block.old block.new }
+    ensures same_side { B.edge block.new ≡ B.edge block.old }
+    ensures same_fits { B.fits block.new ≡ B.fits block.old }
+    ensures back { (d : ℕ → Bool) → B.fits block.old d ≡ true → all_fit (B.edge block.old) (B.fits block.old) d (first_rows (B.edge block.old) (S.solid source.now) count) ≡ true → B.drawing block.old ≡ drawn (B.edge block.old) d (first_rows (B.edge block.old) (S.solid source.now) count) → B.drawing block.new ≡ d }
 {
     let side = block.side();
     for i in (0..count).rev() {
@@ -46,13 +46,13 @@ fn undo_rows<B: Block, S: RowSource>(block: &mut B, source: &S, count: usize)
 /// Makes the flips of the rows in order, and answers how many flips they are. Where a drawing on the way does not fit, the answer is how
 /// many rows were made before.
 fn make_rows<B: Block, S: RowSource>(block: &mut B, source: &S) -> Result<usize, usize>
-    requires { sound block.old }
-    ensures kept { sound block.new }
-    ensures same_loans { ties block.old block.new }
-    ensures same_side { edge block.new ≡ edge block.old }
-    ensures same_fits { fits block.new ≡ fits block.old }
-    ensures made { RowsMade (edge block.old) (fits block.old) (solid source.now) (drawing block.old) (drawing block.new) result }
-    ensures stand { RowsStand (edge block.new) (fits block.new) (solid source.now) (drawing block.old) (drawing block.new) result }
+    requires { B.sound block.old }
+    ensures kept { B.sound block.new }
+    ensures same_loans { B.ties block.old block.new }
+    ensures same_side { B.edge block.new ≡ B.edge block.old }
+    ensures same_fits { B.fits block.new ≡ B.fits block.old }
+    ensures made { RowsMade (B.edge block.old) (B.fits block.old) (S.solid source.now) (B.drawing block.old) (B.drawing block.new) result }
+    ensures stand { RowsStand (B.edge block.new) (B.fits block.new) (S.solid source.now) (B.drawing block.old) (B.drawing block.new) result }
 {
     let side = block.side();
     let mut count = 0;
@@ -71,15 +71,15 @@ fn make_rows<B: Block, S: RowSource>(block: &mut B, source: &S) -> Result<usize,
 /// number of flips, or refusal 12 where a drawing on the way does not fit: then the flips before it are made again, the last first, and the
 /// drawing is as it was.
 pub fn flip_rows<B: Block, S: RowSource>(block: &mut B, source: &S) -> Result<usize, Refusal>
-    requires { sound block.old }
-    ensures kept { sound block.new }
-    ensures same_loans { ties block.old block.new }
-    ensures same_side { edge block.new ≡ edge block.old }
-    ensures same_fits { fits block.new ≡ fits block.old }
-    ensures answer { result ≡ flips_answer (edge block.old) (fits block.old) (drawing block.old) (flips_of (edge block.old) (solid source.now)) }
-    ensures drawn { drawing block.new ≡ (if is_ok result then drawn (edge block.old) (drawing block.old) (flips_of (edge block.old) (solid source.now)) else drawing block.old) }
-    ensures cells { is_ok result ≡ true → ChangedWhere (edge block.old) (solid source.now) (drawing block.old) (drawing block.new) }
-    ensures longest { (y z : ℕ) → LongestRuns (edge block.old) (λ x. solid source.now x y z) (row_runs (edge block.old) (solid source.now) y z) }
+    requires { B.sound block.old }
+    ensures kept { B.sound block.new }
+    ensures same_loans { B.ties block.old block.new }
+    ensures same_side { B.edge block.new ≡ B.edge block.old }
+    ensures same_fits { B.fits block.new ≡ B.fits block.old }
+    ensures answer { result ≡ flips_answer (B.edge block.old) (B.fits block.old) (B.drawing block.old) (flips_of (B.edge block.old) (S.solid source.now)) }
+    ensures drawn { B.drawing block.new ≡ (if is_ok result then drawn (B.edge block.old) (B.drawing block.old) (flips_of (B.edge block.old) (S.solid source.now)) else B.drawing block.old) }
+    ensures cells { is_ok result ≡ true → ChangedWhere (B.edge block.old) (S.solid source.now) (B.drawing block.old) (B.drawing block.new) }
+    ensures longest { (y z : ℕ) → LongestRuns (B.edge block.old) (λ x. S.solid source.now x y z) (row_runs (B.edge block.old) (S.solid source.now) y z) }
 {
     match make_rows(block, source) {
         Ok(count) => Ok(count),

@@ -24,13 +24,13 @@ pub const NO_FLIPS: [Flip; 64] = [Flip {
 
 /// Makes a flip.
 fn make_flip<B: Block>(block: &mut B, flip: Flip) -> Result<(), Refusal>
-    requires { sound block.old }
-    ensures kept { sound block.new }
-    ensures same_loans { ties block.old block.new }
-    ensures same_side { edge block.new ≡ edge block.old }
-    ensures same_fits { fits block.new ≡ fits block.old }
-    ensures refused { refusal_of result ≡ flip_refusal (edge block.old) (fits block.old) (drawing block.old) flip.row.y flip.row.z flip.run.start flip.run.end }
-    ensures drawn { drawing block.new ≡ (if is_ok result then flipped (edge block.old) (drawing block.old) flip else drawing block.old) }
+    requires { B.sound block.old }
+    ensures kept { B.sound block.new }
+    ensures same_loans { B.ties block.old block.new }
+    ensures same_side { B.edge block.new ≡ B.edge block.old }
+    ensures same_fits { B.fits block.new ≡ B.fits block.old }
+    ensures refused { refusal_of result ≡ flip_refusal (B.edge block.old) (B.fits block.old) (B.drawing block.old) flip.row.y flip.row.z flip.run.start flip.run.end }
+    ensures drawn { B.drawing block.new ≡ (if is_ok result then flipped (B.edge block.old) (B.drawing block.old) flip else B.drawing block.old) }
 {
     let Flip { row, run } = flip;
     block.flip(row.y as usize, row.z as usize, run.start, run.end)
@@ -38,13 +38,13 @@ fn make_flip<B: Block>(block: &mut B, flip: Flip) -> Result<(), Refusal>
 
 /// Makes the flips again, the last first: the drawing before them comes back.
 pub fn undo_flips<B: Block>(block: &mut B, flips: &[Flip])
-    requires sound { sound block.old }
-    requires in_box { InBox (edge block.old) flips.now }
-    ensures kept { sound block.new }
-    ensures same_loans { ties block.old block.new }
-    ensures same_side { edge block.new ≡ edge block.old }
-    ensures same_fits { fits block.new ≡ fits block.old }
-    ensures back { (d : ℕ → Bool) → fits block.old d ≡ true → all_fit (edge block.old) (fits block.old) d flips.now ≡ true → drawing block.old ≡ drawn (edge block.old) d flips.now → drawing block.new ≡ d }
+    requires sound { B.sound block.old }
+    requires in_box { InBox (B.edge block.old) flips.now }
+    ensures kept { B.sound block.new }
+    ensures same_loans { B.ties block.old block.new }
+    ensures same_side { B.edge block.new ≡ B.edge block.old }
+    ensures same_fits { B.fits block.new ≡ B.fits block.old }
+    ensures back { (d : ℕ → Bool) → B.fits block.old d ≡ true → all_fit (B.edge block.old) (B.fits block.old) d flips.now ≡ true → B.drawing block.old ≡ drawn (B.edge block.old) d flips.now → B.drawing block.new ≡ d }
 {
     for i in (0..flips.len()).rev() {
         let _ = make_flip(block, flips[i]);
@@ -54,14 +54,14 @@ pub fn undo_flips<B: Block>(block: &mut B, flips: &[Flip])
 /// Makes the flips in order, and answers whether every drawing on the way fits. Where one does not, the flips before it are made again, the
 /// last first, and the drawing is as it was.
 pub fn make_flips<B: Block>(block: &mut B, flips: &[Flip]) -> bool
-    requires sound { sound block.old }
-    requires in_box { InBox (edge block.old) flips.now }
-    ensures kept { sound block.new }
-    ensures same_loans { ties block.old block.new }
-    ensures same_side { edge block.new ≡ edge block.old }
-    ensures same_fits { fits block.new ≡ fits block.old }
-    ensures answer { result ≡ all_fit (edge block.old) (fits block.old) (drawing block.old) flips.now }
-    ensures drawn { drawing block.new ≡ (if result then drawn (edge block.old) (drawing block.old) flips.now else drawing block.old) }
+    requires sound { B.sound block.old }
+    requires in_box { InBox (B.edge block.old) flips.now }
+    ensures kept { B.sound block.new }
+    ensures same_loans { B.ties block.old block.new }
+    ensures same_side { B.edge block.new ≡ B.edge block.old }
+    ensures same_fits { B.fits block.new ≡ B.fits block.old }
+    ensures answer { result ≡ all_fit (B.edge block.old) (B.fits block.old) (B.drawing block.old) flips.now }
+    ensures drawn { B.drawing block.new ≡ (if result then drawn (B.edge block.old) (B.drawing block.old) flips.now else B.drawing block.old) }
 {
     for i in 0..flips.len() {
         if make_flip(block, flips[i]).is_err() {

@@ -57,7 +57,7 @@ pub fn row_flips<S: RowSource>(
 ) -> usize
     requires { number < cells_of side * cells_of side }
     ensures within { result ≤ 64 }
-    ensures written { take result flips.new ≡ row_flips (cells_of side) (solid source.now) (number % cells_of side) (number / cells_of side) }
+    ensures written { take result flips.new ≡ row_flips (cells_of side) (S.solid source.now) (number % cells_of side) (number / cells_of side) }
 {
     let row = row_at(side, number);
     let mut whole = [false; 64];

@@ -1,7 +1,7 @@
 -- The faces of a part, one after another.
-use Rattle.std.proofs.Common.{◌≡◌, ℕ, ◌+◌, ◌-◌, ◌<◌, ◌≤◌, Bool, true, false, cond, List, [], ◌∷◌, ◌++◌, map, length, get_or, take, Some, None, Option, sym, refl, ap, ◌∙◌, subst, arith}
-use Rattle.std.specs.List.{slice_get, AllByRecursion}
-use Rattle.std.proofs.ByRecursion.{All-push}
+use Rattle.std.proofs.Common.{◌≡◌, ℕ, ◌+◌, ◌-◌, ◌<◌, true, cond, List, [], ◌∷◌, ◌++◌, map, length, get_or, take, Some, None, sym, ap, ◌∙◌, subst, arith}
+use Rattle.std.specs.List.{slice_get, All}
+use Rattle.std.proofs.lemmas.List.Elements.{All-push}
 use Rattle.std.proofs.lemmas.List.{map-append, take_more}
 use Rattle.std.proofs.lemmas.Option.{slice_get-get_or}
 use Rattle.geometry.specs.declared.mesh.Point.{Point}
@@ -23,7 +23,7 @@ module _ (ps : List Point) (fs : List Face) (i : ℕ) (d : Face) (h : i < length
             ∙ ap (λ xs. xs ++ (triangle_named ps (get_or fs i d) ∷ [])) n.0
             ∙ ap (λ x. map Some (map triangle_of kept) ++ (x ∷ [])) (sym e ∙ ap Some (sym s.1))
             ∙ sym (map-append Some (map triangle_of kept) (triangle_of f ∷ [])) ∙ ap (map Some) (sym (map-append triangle_of kept (f ∷ []))),
-        subst (λ (ts : List Triangle). AllByRecursion (λ t. triangle_in_range t ≡ true) ts) (sym (map-append triangle_of kept (f ∷ [])))
+        subst (λ (ts : List Triangle). All (λ t. triangle_in_range t ≡ true) ts) (sym (map-append triangle_of kept (f ∷ [])))
             (All-push (λ t. triangle_in_range t ≡ true) (map triangle_of kept) (triangle_of f) n.1 (ap triangle_in_range s.1 ∙ s.0)),
       )
 

@@ -1,6 +1,6 @@
 -- The faces of a part: the triangles that they name, and what is found of them.
-use Rattle.std.specs.Prelude.{◌≡◌, ℕ, zero, suc, ◌-◌, ◌≤◌, Bool, true, false, List, ◌++◌, map, take, ℤ, pos, negsuc, Some, None, Ok, Err, Option, Result}
-use Rattle.std.specs.List.{slice_get, AllByRecursion}
+use Rattle.std.specs.Prelude.{◌≡◌, ℕ, zero, suc, ◌-◌, ◌≤◌, true, false, List, ◌++◌, map, take, ℤ, pos, negsuc, Some, None, Ok, Err, Option, Result}
+use Rattle.std.specs.List.{slice_get, All}
 use Rattle.geometry.specs.declared.mesh.Point.{Point}
 use Rattle.geometry.specs.declared.mesh.Face.{Face}
 use Rattle.geometry.specs.declared.mesh.Triangle.{Triangle}
@@ -29,7 +29,7 @@ triangle_named ps f = joined (point_named ps f.a) (point_named ps f.b) (point_na
 
 -- the faces name these triangles, and all their coordinates are in range
 abbrev pub Named : List Point → List Face → List Triangle → Type 0
-Named ps fs ts = (map (triangle_named ps) fs ≡ map Some ts) × AllByRecursion (λ t. triangle_in_range t ≡ true) ts
+Named ps fs ts = (map (triangle_named ps) fs ≡ map Some ts) × All (λ t. triangle_in_range t ≡ true) ts
 
 -- the face of the number i, counted from 1, is such, and those before it name triangles in range
 pub record First (ps : List Point) (such : Face → Type 0) (fs : List Face) (i : ℕ) : Type 0 where

@@ -80,10 +80,11 @@ fn closes(heap: Global, facets: &[Facet]) -> Result<bool, AllocError>
 {
     let triangles = triangles_of(heap, facets)?;
     let origin = Point { x: 0, y: 0, z: 0 };
-    let mut shelf = vec![in heap; Side {
+    let blank = Side {
         low: origin,
-        high: origin
-    }; 3 * triangles.len()]?;
+        high: origin,
+    };
+    let mut shelf = vec![in heap; blank; 3 * triangles.len()]?;
     match check_sides(triangles.as_slice(), shelf.as_mut_slice()) {
         Closure::Closed => Ok(true),
         _ => Ok(false),

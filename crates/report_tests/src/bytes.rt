@@ -1,7 +1,7 @@
 //! Only the space splits words and only the line feed ends a line; any other byte belongs to a word.
 
 use crate::expect::gives;
-use std::test::*;
+use std::test::Fail;
 
 const TAKEN: &str = "side 2\nsolid 0\n";
 

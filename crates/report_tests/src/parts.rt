@@ -1,7 +1,7 @@
 //! The lines of a part, what is found of its faces, and the faults that cut it off.
 
 use crate::expect::gives;
-use std::test::*;
+use std::test::Fail;
 
 #[test]
 fn a_part_may_be_empty(rt: HostRuntime) -> Result<(), Fail> {

@@ -2,7 +2,8 @@
 
 use crate::expect::gives;
 use std::alloc::{AllocError, Global};
-use std::test::*;
+use std::process::Abort;
+use std::test::Fail;
 
 /// The lines of a part: a tetrahedron with corners at `from` and at `to` on the x axis, and at `width` beside the first on y and on z.
 /// Its slope meets the row through the first cell's centre, where y and z are 8, at from + (to − from) (width − 16) / width.
@@ -16,7 +17,7 @@ fn tetrahedron(heap: Global, from: i32, to: i32, width: i32) -> Result<String, A
 
 /// Checks what is reported of a box of side 2 with one closed tetrahedron: the lines that come after that of the part.
 fn tetrahedron_gives(
-    rt: &HostRuntime,
+    rt: &(impl AllocGlobal + Abort),
     from: i32,
     to: i32,
     width: i32,

@@ -1,7 +1,7 @@
 //! The side line.
 
 use crate::expect::gives;
-use std::test::*;
+use std::test::Fail;
 
 const TAKEN: &str = "side 2\nsolid 0\n";
 

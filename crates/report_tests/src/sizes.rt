@@ -2,7 +2,7 @@
 
 use crate::expect::gives;
 use std::alloc::{AllocError, Global};
-use std::test::*;
+use std::test::Fail;
 
 /// A text with a side line, a part line and then so many lines like this one.
 fn part_of(heap: Global, count: usize, line: &str) -> Result<String, AllocError> {

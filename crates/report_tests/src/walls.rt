@@ -2,7 +2,8 @@
 
 use crate::expect::gives;
 use std::alloc::{AllocError, Global};
-use std::test::*;
+use std::process::Abort;
+use std::test::Fail;
 
 /// The lines of a part: the box between two corners, in eight points and twelve triangles. The number of a point is 1 at the low corner,
 /// and 1 more at the high x, 2 more at the high y and 4 more at the high z.
@@ -23,7 +24,7 @@ fn cuboid(heap: Global, low: [i32; 3], high: [i32; 3]) -> Result<String, AllocEr
 
 /// Checks what is reported of a box of this side with one closed cuboid: the lines that come after that of the part.
 fn cuboid_gives(
-    rt: &HostRuntime,
+    rt: &(impl AllocGlobal + Abort),
     side: u8,
     low: [i32; 3],
     high: [i32; 3],

@@ -1,5 +1,6 @@
 -- One marked cell.
 use Rattle.std.proofs.Common.{◌≡◌, ℕ, ◌*◌, ◌/◌, ◌%◌, Bool, true, false, ◌&&◌, ◌||◌, eqb, ◌⊎◌, None, sym, refl, ap, ◌∙◌, inl, inr, ⊎_elim}
+use Rattle.std.proofs.Math.Bool.{or-false, or-true}
 use Rattle.std.proofs.lemmas.Bool.{cases_eq, cond-true, eq-eqb, ne_eqb}
 use Rattle.block.specs.Drawing.{in_box, number}
 use Rattle.block.proofs.Numbers.{in_box_true}
@@ -26,18 +27,10 @@ module _ (n x y z u v w : ℕ) (h : in_box n x y z ≡ true) (k : in_box n u v w
   marked_cell d T t = ⊎_elim here away (cases_eq (number n u v w) (number n x y z))
     where
       yes : (b c : Bool) → b ≡ true → c ≡ true → (b || d (number n u v w)) ≡ (d (number n u v w) || c)
-      yes b c e f = rw (e, f) (or_true (d (number n u v w)))
-        where
-          or_true : (a : Bool) → true ≡ (a || true)
-          or_true true = refl
-          or_true false = refl
+      yes b c e f = rw (e, f) (sym (or-true (d (number n u v w))))
 
       no : (b c : Bool) → b ≡ false → c ≡ false → (b || d (number n u v w)) ≡ (d (number n u v w) || c)
-      no b c e f = rw (e, f) (or_false (d (number n u v w)))
-        where
-          or_false : (a : Bool) → a ≡ (a || false)
-          or_false true = refl
-          or_false false = refl
+      no b c e f = rw (e, f) (sym (or-false (d (number n u v w))))
 
       here : number n u v w ≡ number n x y z → (eqb (number n u v w) (number n x y z) || d (number n u v w)) ≡ (d (number n u v w) || (eqb u x && (eqb v y && (eqb w z && T u v w))))
       here e = yes _ _ (eq-eqb _ _ e) all

@@ -1,22 +1,15 @@
 -- Marks, one after the other.
-use Rattle.std.proofs.Common.{◌≡◌, ℕ, Bool, true, false, ◌||◌, refl, ap, ◌∙◌, subst}
+use Rattle.std.proofs.Common.{◌≡◌, ℕ, Bool, true, false, ◌||◌, sym, refl, ap, ◌∙◌, subst}
+use Rattle.std.proofs.Math.Bool.{or-false, or_assoc}
 use Rattle.block.specs.Drawing.{in_box, number}
 use Rattle.dense.specs.declared.Dense.{Dense}
-use Rattle.dense.specs.Board.{Sound, drawing_of, edge_of, fits_in}
+use Rattle.dense.specs.Board.{Sound, drawing_of, edge_of}
 use Rattle.dense.specs.Ties.{tied_on, tied_same}
 use Rattle.skins.specs.Skins.{Marked}
 
-pub or_none : (b : Bool) → b ≡ (b || false)
-or_none true = refl
-or_none false = refl
-
-pub or_assoc : (a b c : Bool) → ((a || b) || c) ≡ (a || (b || c))
-or_assoc true b c = refl
-or_assoc false b c = refl
-
 -- no cell is marked
 pub marked_none : (a : Dense) → Sound a → Marked a a (λ _ _ _. false)
-marked_none a s = record { sound = s; tied = tied_same a; same_fits = refl; cells = λ x y z h. or_none _ }
+marked_none a s = record { sound = s; tied = tied_same a; same_fits = refl; cells = λ x y z h. sym (or-false _) }
 
 -- the test may be another one that is the same in the box
 pub marked_as : {a b : Dense} {P Q : ℕ → ℕ → ℕ → Bool} → ((x y z : ℕ) → in_box (edge_of a) x y z ≡ true → P x y z ≡ Q x y z) → Marked a b P → Marked a b Q
@@ -39,7 +32,3 @@ marked_on {a} {b} {c} {P} {Q} {R} e m k =
           subst (λ (n : ℕ). in_box n x y z ≡ true → drawing_of c (number n x y z) ≡ (drawing_of b (number n x y z) || Q x y z)) same (k.cells x y z) h
           ∙ ap (λ v. v || Q x y z) (m.cells x y z h) ∙ or_assoc (drawing_of a (number (edge_of a) x y z)) (P x y z) (Q x y z) ∙ ap (λ v. drawing_of a (number (edge_of a) x y z) || v) (e x y z);
     }
-
--- a board that holds all drawings goes on doing so
-pub room_kept : {a b : Dense} {P : ℕ → ℕ → ℕ → Bool} → Marked a b P → ((d : ℕ → Bool) → fits_in a d ≡ true) → (d : ℕ → Bool) → fits_in b d ≡ true
-room_kept m r d = ap (λ (F : (ℕ → Bool) → Bool). F d) m.same_fits ∙ r d

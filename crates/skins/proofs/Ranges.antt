@@ -1,6 +1,5 @@
 -- Ranges of numbers that grow by one, in tests.
-use Rattle.std.proofs.Common.{◌≡◌, ℕ, ◌+◌, ◌<◌, ◌≤◌, max, Bool, true, false, ◌&&◌, ◌||◌, eqb, ltb, leb, sym, refl, ap, ◌∙◌, ⊎_elim, arith}
-use Rattle.std.proofs.lemmas.Bool.{cases_lt}
+use Rattle.std.proofs.Common.{◌≡◌, ℕ, ◌+◌, ◌≤◌, Bool, true, false, ◌&&◌, ◌||◌, eqb, ltb, leb, refl, ap, ◌∙◌, arith}
 use Rattle.std.proofs.lemmas.Bool.Decides.{nat_tests}
 
 -- from a up to, and without, b
@@ -9,16 +8,6 @@ between a b k = leb a k && ltb k b
 
 none_yet : (a k : ℕ) → false ≡ between a a k
 none_yet a k = grind (arith, nat_tests)
-
--- where a loop from a has stopped at x, by b, it has gone through all from a up to b
-gone_through : (a b x k : ℕ) → x ≤ max a b → b ≤ x → a ≤ x → between a x k ≡ between a b k
-gone_through a b x k h i j = ⊎_elim
-    (λ l. ap (λ m. between a m k) (omega (arith, h)) ∙ sym (none_yet a k) ∙ none b l)
-    (λ l. ap (λ m. between a m k) (omega (arith, h)))
-    (cases_lt b a)
-  where
-    none : (b : ℕ) → b < a → false ≡ between a b k
-    none b l = grind (arith, nat_tests)
 
 one_more : (a b k : ℕ) → a ≤ b → (between a b k || eqb k b) ≡ between a (b + 1) k
 one_more a b k h = grind (arith, nat_tests)
@@ -50,17 +39,3 @@ module _ (a k : ℕ) where
   pub second_none : (p t : Bool) → false ≡ (p && (between a a k && t))
   second_none true t = first_none t
   second_none false t = refl
-
-  pub third_none : (p q t : Bool) → false ≡ (p && (q && (between a a k && t)))
-  third_none true q t = second_none q t
-  third_none false q t = refl
-
-module _ (a b x k : ℕ) (h : x ≤ max a b) (i : b ≤ x) (j : a ≤ x) where
-  pub first_gone : (t : Bool) → (between a x k && t) ≡ (between a b k && t)
-  first_gone t = ap (λ p. p && t) (gone_through a b x k h i j)
-
-  pub second_gone : (p t : Bool) → (p && (between a x k && t)) ≡ (p && (between a b k && t))
-  second_gone p t = ap (λ q. p && q) (first_gone t)
-
-  pub third_gone : (p q t : Bool) → (p && (q && (between a x k && t))) ≡ (p && (q && (between a b k && t)))
-  third_gone p q t = ap (λ r. p && r) (second_gone q t)

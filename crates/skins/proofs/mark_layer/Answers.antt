@@ -3,7 +3,7 @@ use Rattle.geometry.specs.Extents.{in_span}
 use Rattle.geometry.specs.Read.{triangle_of}
 use Rattle.skins.specs.Skins.{made_at}
 use Rattle.skins.proofs.Marks.{marked_as, marked_none, marked_on}
-use Rattle.skins.proofs.Ranges.{second_gone, second_more, second_none}
+use Rattle.skins.proofs.Ranges.{second_more, second_none}
 use Rattle.skins.proofs.mark_layer.Goals as goal
 
 pub loop-y-init : goal.loop-y-init
@@ -13,9 +13,3 @@ loop-y-init c =
 pub loop-y-preserved : goal.loop-y-preserved
 loop-y-preserved c =
     (omega arith, marked_on (λ u v w. second_more c.args.ys.start c.loop-y.y v c.loop-y.auto.y (in_span c.args.xs u) (eqb w c.args.z && made_at c.args.skin (triangle_of c.args.facet.now) u v w)) c.loop-y.invariant.1 c.mark_row.ensures)
-
-pub returns : goal.returns
-returns c =
-    marked_as
-    (λ u v w _. second_gone c.args.ys.start c.args.ys.end c.loop-y.y v c.loop-y.invariant.0 c.loop-y-test.false c.loop-y.auto.y (in_span c.args.xs u) (eqb w c.args.z && made_at c.args.skin (triangle_of c.args.facet.now) u v w))
-    c.loop-y.invariant.1

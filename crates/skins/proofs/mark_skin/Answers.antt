@@ -1,17 +1,18 @@
 use Rattle.std.proofs.Common.{◌≡◌, ℕ, ◌+◌, ◌||◌, List, [], ◌∷◌, ◌++◌, map, take, sym, ap, ◌∙◌}
-use Rattle.std.proofs.lemmas.List.{map_more, take_all}
+use Rattle.std.proofs.Math.Bool.{or-false, or_assoc}
+use Rattle.std.proofs.lemmas.List.{map_more}
 use Rattle.geometry.specs.declared.mesh.Triangle.{Triangle}
 use Rattle.geometry.specs.Read.{triangle_of}
 use Rattle.skins.specs.declared.Skin.{Skin}
 use Rattle.skins.specs.Skins.{made_at, some_make}
-use Rattle.skins.proofs.Marks.{marked_as, marked_on, or_assoc, or_none}
+use Rattle.skins.proofs.Marks.{marked_on}
 use Rattle.skins.proofs.mark_skin.Goals as goal
 
 -- one triangle more, at the end of the list
-or-more : (s : Skin) (t : Triangle) (ts : List Triangle) (x y z : ℕ) → (some_make s ts x y z || made_at s t x y z) ≡ some_make s (ts ++ t ∷ []) x y z
-or-more s t [] x y z = or_none (made_at s t x y z)
-or-more s t (u ∷ ts) x y z =
-    or_assoc (made_at s u x y z) (some_make s ts x y z) (made_at s t x y z) ∙ ap (λ b. made_at s u x y z || b) (or-more s t ts x y z)
+or_more : (s : Skin) (t : Triangle) (ts : List Triangle) (x y z : ℕ) → (some_make s ts x y z || made_at s t x y z) ≡ some_make s (ts ++ t ∷ []) x y z
+or_more s t [] x y z = sym (or-false (made_at s t x y z))
+or_more s t (u ∷ ts) x y z =
+    or_assoc (made_at s u x y z) (some_make s ts x y z) (made_at s t x y z) ∙ ap (λ b. made_at s u x y z || b) (or_more s t ts x y z)
 
 pub loop-facet-preserved : goal.loop-facet-preserved
 loop-facet-preserved c =
@@ -22,13 +23,5 @@ loop-facet-preserved c =
     let more : map triangle_of (take (i + 1) fs) ≡ ts ++ triangle_of f ∷ [] =
     map_more triangle_of fs i f c.loop-facet-test.true ∙ ap (λ g. ts ++ triangle_of g ∷ []) (sym c.facet-item.is) in
     marked_on
-    (λ x y z. or-more c.args.skin (triangle_of f) ts x y z ∙ ap (λ us. some_make c.args.skin us x y z) (sym more))
+    (λ x y z. or_more c.args.skin (triangle_of f) ts x y z ∙ ap (λ us. some_make c.args.skin us x y z) (sym more))
     c.loop-facet.invariant c.mark_facet.ensures
-
-pub returns : goal.returns
-returns c = (
-  sym c.has_room.ensures.bytes ∙ c.if-not-has_room.false,
-  marked_as
-      (λ x y z _. ap (λ fs. some_make c.args.skin (map triangle_of fs) x y z) (take_all c.loop-facet.facet-index c.args.facets.now c.loop-facet-test.false))
-      c.loop-facet.invariant,
-)

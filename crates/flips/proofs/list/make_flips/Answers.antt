@@ -1,11 +1,6 @@
-use Rattle.std.proofs.Common.{◌≡◌, ℕ, ◌-◌, Bool, take, sym, refl, ap, ◌∙◌, subst, arith}
-use Rattle.std.proofs.lemmas.List.{take_all}
-use Rattle.flips.specs.Drawn.{drawn, all_fit, InBox}
-use Rattle.flips.proofs.Made.{in_box_front, made_more, made_not, fit_moved}
+use Rattle.std.proofs.Common.{sym, ◌∙◌}
+use Rattle.flips.proofs.Made.{in_box_front, made_more, made_not}
 use Rattle.flips.proofs.list.make_flips.Goals as goal
-
-pub loop-i-init : goal.loop-i-init
-loop-i-init g c = (c.requires.sound, g.B.Block.ties_same c.args.block.now, refl, refl, refl, refl)
 
 pub loop-i-preserved : goal.loop-i-preserved
 loop-i-preserved g c =
@@ -13,63 +8,28 @@ loop-i-preserved g c =
     let F = g.B.Block.fits c.args.block.now in
     let d = g.B.Block.drawing c.args.block.now in
     let inv = c.loop-i.invariant in
-    let told = c.make-flip.ensures in
-    let more = made_more n F d c.args.flips.now c.loop-i.i c.loop-i-test.true c.requires.in_box (g.B.Block.drawing c.make-flip.new.block) c.make-flip.result
-    inv.2 inv.3 (told.refused, told.drawn) inv.4 inv.5 c.if-is-err.ensures.negation in (
+    let told = c.make_flip.ensures in
+    let more = made_more n F d c.args.flips.now c.loop-i.i c.loop-i-test.true c.requires.in_box (g.B.Block.drawing c.make_flip.new.block) c.make_flip.result
+    inv.2 inv.3 (told.refused, told.drawn) inv.4 inv.5 c.if-is_err.ensures.negation in (
       told.kept,
-      g.B.Block.ties_on c.args.block.now c.loop-i.block c.make-flip.new.block inv.1 told.same-loans,
-      told.same-side ∙ inv.2,
+      g.B.Block.ties_on c.args.block.now c.loop-i.block c.make_flip.new.block inv.1 told.same_loans,
+      told.same_side ∙ inv.2,
       told.same_fits ∙ inv.3,
       more.0,
       more.1,
     )
 
-pub undo-flips-requires : goal.undo-flips-requires
-undo-flips-requires g c = record {
-  sound = c.make-flip.ensures.kept;
-  in_box = in_box_front c.args.flips.now _ (c.make-flip.ensures.same-side ∙ c.loop-i.invariant.2) c.requires.in_box;
-}
+pub undo_flips-requires-clause-in_box : goal.undo_flips-requires-clause-in_box
+undo_flips-requires-clause-in_box g c = in_box_front c.args.flips.now _ (c.make_flip.ensures.same_side ∙ c.loop-i.invariant.2) c.requires.in_box
 
-pub returns-then-is-err : goal.returns-then-is-err
-returns-then-is-err g c =
-    let n = g.B.Block.edge c.args.block.now in
-    let F = g.B.Block.fits c.args.block.now in
-    let d = g.B.Block.drawing c.args.block.now in
-    let fs = c.args.flips.now in
-    let i = c.loop-i.i in
-    let inv = c.loop-i.invariant in
-    let told = c.make-flip.ensures in
-    let undone = c.undo-flips.ensures in
-    let side = told.same-side ∙ inv.2 in
-    let fits = told.same_fits ∙ inv.3 in
-    let end : i ≡ i - 0 = omega arith in
-    let no = made_not n F d fs i c.loop-i-test.true c.requires.in_box (g.B.Block.drawing c.make-flip.new.block) c.make-flip.result
-    inv.2 inv.3 (told.refused, told.drawn) inv.4 c.if-is-err.ensures.negation in
-    record {
-      kept = undone.kept;
-      same-loans = g.B.Block.ties_on c.args.block.now c.make-flip.new.block c.undo-flips.new.block
-          (g.B.Block.ties_on c.args.block.now c.loop-i.block c.make-flip.new.block inv.1 told.same-loans) undone.same-loans;
-      same-side = undone.same-side ∙ side;
-      same_fits = undone.same_fits ∙ fits;
-      answer = sym no.1;
-      drawn = undone.back d
-          (ap (λ (G : (ℕ → Bool) → Bool). G d) fits ∙ g.B.Block.present_fits c.args.block.now c.requires.sound)
-          (fit_moved d (take (i - 0) fs) side fits ∙ ap (λ k. all_fit n F d (take k fs)) (sym end) ∙ inv.5)
-          (no.0 ∙ ap (λ m. drawn m d (take i fs)) (sym side) ∙ ap (λ k. drawn (g.B.Block.edge c.make-flip.new.block) d (take k fs)) end);
-    }
+pub returns-then-is_err-clause-same_loans : goal.returns-then-is_err-clause-same_loans
+returns-then-is_err-clause-same_loans g c =
+    g.B.Block.ties_on c.args.block.now c.make_flip.new.block c.undo_flips.new.block
+    (g.B.Block.ties_on c.args.block.now c.loop-i.block c.make_flip.new.block c.loop-i.invariant.1 c.make_flip.ensures.same_loans) c.undo_flips.ensures.same_loans
 
-pub returns : goal.returns
-returns g c =
-    let n = g.B.Block.edge c.args.block.now in
-    let F = g.B.Block.fits c.args.block.now in
-    let d = g.B.Block.drawing c.args.block.now in
+pub returns-then-is_err-clause-answer : goal.returns-then-is_err-clause-answer
+returns-then-is_err-clause-answer g c =
     let inv = c.loop-i.invariant in
-    let all = take_all c.loop-i.i c.args.flips.now c.loop-i-test.false in
-    record {
-      kept = inv.0;
-      same-loans = inv.1;
-      same-side = inv.2;
-      same_fits = inv.3;
-      answer = sym inv.5 ∙ ap (all_fit n F d) all;
-      drawn = inv.4 ∙ ap (drawn n d) all;
-    }
+    let told = c.make_flip.ensures in
+    sym (made_not (g.B.Block.edge c.args.block.now) (g.B.Block.fits c.args.block.now) (g.B.Block.drawing c.args.block.now) c.args.flips.now c.loop-i.i c.loop-i-test.true c.requires.in_box (g.B.Block.drawing c.make_flip.new.block) c.make_flip.result
+    inv.2 inv.3 (told.refused, told.drawn) inv.4 c.if-is_err.ensures.negation).1

@@ -1,13 +1,7 @@
-use Rattle.std.proofs.Common.{◌≡◌, ◌+◌, ◌-◌, ◌<◌, length, take, sym, refl, ap, ◌∙◌, arith}
-use Rattle.std.proofs.lemmas.List.{take_all}
+use Rattle.std.proofs.Common.{◌≡◌, ◌+◌, ◌-◌, ◌<◌, length, take, ap, ◌∙◌, arith}
 use Rattle.flips.specs.Drawn.{drawn}
 use Rattle.flips.proofs.Made.{made_again}
 use Rattle.flips.proofs.list.undo_flips.Goals as goal
-
-pub loop-i-init : goal.loop-i-init
-loop-i-init g c =
-    let all = take_all (length c.args.flips.now) c.args.flips.now (omega arith) in
-    (c.requires.sound, g.B.Block.ties_same c.args.block.now, refl, refl, λ d fit way now. now ∙ ap (drawn (g.B.Block.edge c.args.block.now) d) (sym all))
 
 pub loop-i-preserved : goal.loop-i-preserved
 loop-i-preserved g c =
@@ -16,14 +10,14 @@ loop-i-preserved g c =
     let fs = c.args.flips.now in
     let i = c.loop-i.i - 1 in
     let inv = c.loop-i.invariant in
-    let told = c.make-flip.ensures in
+    let told = c.make_flip.ensures in
     let up : c.loop-i.i ≡ i + 1 = omega arith in
     let within : i < length fs = omega arith in (
       told.kept,
-      g.B.Block.ties_on c.args.block.now c.loop-i.block c.make-flip.new.block inv.1 told.same-loans,
-      told.same-side ∙ inv.2,
+      g.B.Block.ties_on c.args.block.now c.loop-i.block c.make_flip.new.block inv.1 told.same_loans,
+      told.same_side ∙ inv.2,
       told.same_fits ∙ inv.3,
       λ d fit way now.
-          made_again n F d fs i within c.requires.in_box (g.B.Block.drawing c.make-flip.new.block) c.make-flip.result inv.2 inv.3 (told.refused, told.drawn)
+          made_again n F d fs i within c.requires.in_box (g.B.Block.drawing c.make_flip.new.block) c.make_flip.result inv.2 inv.3 (told.refused, told.drawn)
           (inv.4 d fit way now ∙ ap (λ k. drawn n d (take k fs)) up) fit way,
     )

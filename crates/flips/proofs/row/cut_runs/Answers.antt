@@ -29,18 +29,18 @@ loop-run-preserved c =
     )
 
 -- the runs of flips of runs
-runs-back : (y z : ℕ) (rs : List Run) → rs ≡ map (λ (f : Flip). f.run) (map (flip_at y z) rs)
-runs-back y z [] = refl
-runs-back y z (r ∷ rs) = ap (λ (ts : List Run). r ∷ ts) (runs-back y z rs)
+runs_back : (y z : ℕ) (rs : List Run) → rs ≡ map (λ (f : Flip). f.run) (map (flip_at y z) rs)
+runs_back y z [] = refl
+runs_back y z (r ∷ rs) = ap (λ (ts : List Run). r ∷ ts) (runs_back y z rs)
 
-pub returns : goal.returns
-returns c =
-    let inv = c.loop-run.invariant in
-    let cells = c.args.cells.now in
-    let written = sym (append-nil (take c.loop-run.count c.loop-run.flips)) ∙ inv.2 [] c.in-default.ensures in
-    record {
-      within = omega arith;
-      longest = subst (LongestRuns (length cells) (λ x. get_or cells x false))
-          (runs-back c.args.row.y c.args.row.z (told_runs cells) ∙ ap (map (λ (f : Flip). f.run)) (sym written)) (runs_longest (length cells) (λ x. get_or cells x false));
-      written = written;
-    }
+written_runs : (y z : ℕ) (cells : List Bool) (fs : List Flip) → fs ≡ map (flip_at y z) (told_runs cells)
+    → LongestRuns (length cells) (λ x. get_or cells x false) (map (λ (f : Flip). f.run) fs)
+written_runs y z cells fs written =
+    subst (LongestRuns (length cells) (λ x. get_or cells x false))
+    (runs_back y z (told_runs cells) ∙ ap (map (λ (f : Flip). f.run)) (sym written)) (runs_longest (length cells) (λ x. get_or cells x false))
+
+pub returns-clause-written : goal.returns-clause-written
+returns-clause-written c = sym (append-nil (take c.loop-run.count c.loop-run.flips)) ∙ c.loop-run.invariant.2 [] c.in_default.ensures
+
+pub returns-clause-longest : goal.returns-clause-longest
+returns-clause-longest c = written_runs c.args.row.y c.args.row.z c.args.cells.now _ (returns-clause-written c)

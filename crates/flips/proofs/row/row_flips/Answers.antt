@@ -4,15 +4,11 @@ use Rattle.block.proofs.Sides.{side_le}
 use Rattle.flips.proofs.Rows.{row_told}
 use Rattle.flips.proofs.row.row_flips.Goals as goal
 
-pub returns : goal.returns
-returns g c =
+pub returns-clause-written : goal.returns-clause-written
+returns-clause-written g c =
     let n = cells_of c.args.side in
     let short : n ≤ 64 = side_le n c.args.side.is_one in
     let told = c.row.ensures in
     let kept = c.row.auto in
-    let cut = c.cut-runs.ensures in
     let long : length c.row.new.cells ≡ n = omega arith in
-    record {
-      within = omega (arith, cut.within);
-      written = row_told (g.S.RowSource.solid c.args.source.now) n c.args.number c.row-at-row.result c.row.new.cells _ c.row-at-row.ensures.y c.row-at-row.ensures.z long (λ x h. told x (omega arith)) cut.written;
-    }
+    row_told (g.S.RowSource.solid c.args.source.now) n c.args.number c.row_at-row.result c.row.new.cells _ c.row_at-row.ensures.y c.row_at-row.ensures.z long (λ x h. told x (omega arith)) c.cut_runs.ensures.written

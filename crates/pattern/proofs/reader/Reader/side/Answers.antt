@@ -1,4 +1,4 @@
-use Rattle.std.proofs.Common.{◌≡◌, List, Some, None, Ok, Err, Option, Result, refl}
+use Rattle.std.proofs.Common.{◌≡◌, List, Some, None, Ok, Err, Option, Result, refl, rules}
 use Rattle.std.proofs.lemmas.Result.{err_from_is_err_and}
 use Rattle.std.specs.Option.{option_map}
 use Rattle.refusals.specs.declared.Refusal.{Refusal}
@@ -27,4 +27,5 @@ returns-in_err-side c =
     let p = err_from_is_err_and c.from_residual.result c.from_residual.ensures.1 in
     let r = c.args.self.now in
     let e = not_settled r.side r.state (stand_of r).left c.in_default.not-Some in
-    rw (p.1, p.2, e) (refused _ r c.read_side.new.self _ c.in_err-side.ensures)
+    let h = refused _ r c.read_side.new.self _ c.in_err-side.ensures in
+    rw (p.1, p.2, e) (search rules)
