@@ -1,5 +1,5 @@
 -- The orders of points and of sides: points by x, then y, then z; sides by the low end, then the high one.
-use Rattle.std.specs.Prelude.{Bool, Some, None, Option}
+use Rattle.std.specs.Prelude.{◌≡◌, refl, Bool, Some, None, Option}
 use Rattle.std.specs.declared.cmp.Ordering.TheVariants.{Less, Equal, Greater}
 use Rattle.std.specs.declared.cmp.Ordering.{Ordering}
 use Rattle.std.specs.Cmp.{IsTotalOrder, int_cmp_total, on_total, then_total}
@@ -15,7 +15,14 @@ point_cmp p q = ordering_then (int_cmp p.x q.x) (ordering_then (int_cmp p.y q.y)
 abbrev pub side_cmp : Side → Side → Ordering
 side_cmp s t = ordering_then (point_cmp s.low t.low) (point_cmp s.high t.high)
 
--- they are the orders that points and sides are compared by, and are total
+-- they are what the two types' own comparisons answer
+pub point_is : (by_point.ghosts).cmp ≡ point_cmp
+point_is = refl
+
+pub side_is : (by_side.ghosts).cmp ≡ side_cmp
+side_is = refl
+
+-- and those are total
 abbrev pub point_order : IsTotalOrder (by_point.ghosts).cmp
 point_order = then_total (on_total (λ (p : Point). p.x) int_cmp_total) (then_total (on_total (λ (p : Point). p.y) int_cmp_total) (on_total (λ (p : Point). p.z) int_cmp_total))
 
