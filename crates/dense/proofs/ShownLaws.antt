@@ -1,15 +1,15 @@
 -- The drawing that bytes hold, and what fits in them.
-use Rattle.std.proofs.Common.{◌≡◌, ℕ, ◌*◌, ◌/◌, ◌<◌, ◌≤◌, Bool, true, false, not, ◌&&◌, ◌||◌, eqb, ltb, leb, List, ◌++◌, length, drop, replicate, Decides, sym, refl, ap, ◌∙◌, ⊎_elim, arith, length-append, length-drop}
+use Rattle.std.proofs.Common.{◌≡◌, ℕ, ◌*◌, ◌/◌, ◌<◌, ◌≤◌, Bool, true, false, not, ◌&&◌, ◌||◌, eqb, ltb, leb, List, ◌++◌, length, drop, replicate, Decides, sym, refl, ap, ◌∙◌, ⊎_elim, arith}
 use mathlib.Core.Path.{fun_ext}
 use lib.ListN.{get_or-replicate, length-replicate}
-use Rattle.std.proofs.lemmas.List.{drop_at, get_or_append_left}
-use Rattle.std.proofs.lemmas.Bool.{lt-ltb, and_from, and_right, or_left, or_from, leb-true, cond-true, cond-false, cond_both, cases_Bool, cases_lt, eq-eqb, ne_eqb, true≢false}
+use Rattle.std.proofs.lemmas.List.{get_or_append_left}
+use Rattle.std.proofs.lemmas.Bool.{lt-ltb, and_from, and_right, or_left, or_from, cond-true, cond-false, cases_Bool, cases_lt, eq-eqb, ne_eqb, true≢false}
 use Rattle.std.proofs.lemmas.Bool.Decides.{Decides-at}
 use Rattle.refusals.specs.Sides.{is_side}
 use Rattle.block.specs.Drawing.{blank, turned}
 use Rattle.block.proofs.Sides.{cube_some, cube_eights}
 use Rattle.block.proofs.Turns.{turned_high, turned_in}
-use Rattle.dense.specs.Cells.{BlankIn, bytes_for, cell_in, enough, shown, bare_below, room, spare, wiped}
+use Rattle.dense.specs.Cells.{BlankIn, bytes_for, cell_in, enough, shown, bare_below, room, wiped}
 use Rattle.dense.specs.Laws.{bare_decides, short_shown, shown_within}
 use Rattle.dense.specs.Marks.{marked}
 use Rattle.dense.proofs.BitLaws.{cell_zero}
@@ -62,21 +62,6 @@ wiped_blank n bs s = ⊎_elim enough_blank short_blank (cases_Bool (enough n bs)
     enough_blank : enough n bs ≡ true → shown n (wiped n bs) ≡ blank
     enough_blank e = ap (shown n) (cond-true (enough n bs) _ bs e) ∙ fun_ext (λ k. ⊎_elim (λ h. shown_clear n _ k (clear k h)) (shown_within n _ k) (cases_lt k (n * n * n)))
 
--- where only the bytes with cells change, the others are as they were
-pub spare_same : (n : ℕ) (bs cs : List ℕ) → enough n bs ≡ true → length cs ≡ length bs → drop (bytes_for n) cs ≡ drop (bytes_for n) bs → spare n cs ≡ spare n bs
-spare_same n bs cs e len h = cond-true (enough n cs) _ cs (ap (leb (bytes_for n)) len ∙ e) ∙ h ∙ sym (cond-true (enough n bs) _ bs e)
-
--- a new board has as many bytes as it was lent, and those that no cell lies in are as they were
-pub wiped_length : (n : ℕ) (bs : List ℕ) → length (wiped n bs) ≡ length bs
-wiped_length n bs = cond_both (enough n bs) _ bs (λ cs. length cs ≡ length bs)
-    (λ e. let le = leb-true (bytes_for n) (length bs) e in simp (length-append, length-replicate, length-drop) (omega arith))
-    (λ e. refl)
-
-pub wiped_spare : (n : ℕ) (bs : List ℕ) → spare n (wiped n bs) ≡ spare n bs
-wiped_spare n bs = cond_both (enough n bs) _ bs (λ cs. spare n cs ≡ spare n bs)
-    (λ e. spare_same n bs _ e (ap length (sym (cond-true (enough n bs) _ bs e)) ∙ wiped_length n bs) (drop_at (replicate (bytes_for n) 0) (drop (bytes_for n) bs) (bytes_for n) (length-replicate (bytes_for n) 0)))
-    (λ e. refl)
-
 -- with enough bytes every drawing fits
 pub enough_fits : (n : ℕ) (bs : List ℕ) → enough n bs ≡ true → (d : ℕ → Bool) → room n bs d ≡ true
 unfolding room
@@ -116,7 +101,3 @@ fits_turned n bs lo hi l h =
     (λ e. e ∙ sym (enough_fits n bs e _))
     (λ e. e ∙ sym (short_refuses n bs e (turned (shown n bs) lo hi) lo within (turned_in (shown n bs) lo hi lo here l ∙ ap not (short_shown n bs e lo))))
     (cases_Bool (enough n bs))
-
--- enough bytes have a bit for each cell
-pub enough_bits : (n : ℕ) (bs : List ℕ) → is_side n ≡ true → enough n bs ≡ true → n * n * n ≤ 8 * length bs
-enough_bits n bs s e = omega (arith, leb-true (bytes_for n) (length bs) e, cube_eights n s)

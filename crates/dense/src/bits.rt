@@ -8,6 +8,7 @@ ghost use Rattle.dense.specs.Cells.{bit, cell_in, filled_at, turned_at, wiped};
 use crate::places::{byte_count, is_enough};
 
 /// Whether bit `j` of a byte is set.
+#[tactic(auto, using(crate::proofs::BitLaws::bit_read))]
 fn bit_of(byte: u8, j: usize) -> bool
     requires { j < 8 }
     ensures { result ≡ bit byte j }

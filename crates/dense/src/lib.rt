@@ -30,6 +30,7 @@ pub struct Dense<'a> {
 
 impl<'a> Dense<'a> {
     /// A blank board. Where the bytes are enough, 0 is written into the first N × N × N / 8; where they are fewer, none is touched.
+    #[tactic(auto, using(crate::proofs::ShownLaws::room_same, crate::proofs::ShownLaws::wiped_blank))]
     pub fn new(side: BoxSide, cells: &'a mut [u8]) -> Dense<'a>
         ensures sound { Sound result }
         ensures edge { edge_of result ≡ cells_of side }
@@ -44,6 +45,7 @@ impl<'a> Dense<'a> {
     }
 
     /// Whether all drawings fit; where they do not, just the drawings fit that are blank in the box.
+    #[tactic(auto, using(crate::proofs::ShownLaws::enough_decides, crate::proofs::ShownLaws::short_decides))]
     pub fn has_room(&self) -> bool
         requires { Sound self.now }
         ensures bytes { result ≡ enough (edge_of self.now) (bytes_of self.now) }
@@ -76,6 +78,7 @@ impl<'a> Dense<'a> {
     }
 
     /// Whether cell `k` is solid.
+    #[tactic(auto, using(crate::specs::Laws::short_shown, crate::proofs::ShownLaws::shown_in))]
     fn is_solid(&self, k: usize) -> bool
         requires { (Sound self.now) × (k < volume_of self.now) }
         ensures { result ≡ drawing_of self.now k }
@@ -84,6 +87,7 @@ impl<'a> Dense<'a> {
     }
 
     /// Whether the drawing fits with cell `k` marked.
+    #[tactic(auto, using(crate::proofs::ShownLaws::fits_marked))]
     fn takes_mark(&self, k: usize) -> bool
         requires { (Sound self.now) × (k < volume_of self.now) }
         ensures fits { result ≡ fits_in self.now (marked (drawing_of self.now) k) }
@@ -93,6 +97,7 @@ impl<'a> Dense<'a> {
     }
 
     /// Whether the drawing fits with the cells from `lo` up to, and without, `hi` changed.
+    #[tactic(auto, using(crate::proofs::ShownLaws::fits_turned))]
     fn takes_run(&self, lo: usize, hi: usize) -> bool
         requires { (Sound self.now) × ((lo < hi) × (hi ≤ volume_of self.now)) }
         ensures fits { result ≡ fits_in self.now (turned (drawing_of self.now) lo hi) }
@@ -102,6 +107,7 @@ impl<'a> Dense<'a> {
     }
 
     /// Makes cell `k` solid.
+    #[tactic(auto, using(crate::proofs::BitLaws::cells_filled, crate::proofs::ShownLaws::room_same, crate::proofs::ShownLaws::shown_marked))]
     fn fill(&mut self, k: usize)
         requires sound { Sound self.old }
         requires room { enough (edge_of self.old) (bytes_of self.old) ≡ true }
@@ -114,6 +120,7 @@ impl<'a> Dense<'a> {
     }
 
     /// Changes the cells from `lo` up to, and without, `hi`.
+    #[tactic(auto, using(crate::proofs::ShownLaws::room_same, crate::proofs::ShownLaws::shown_turned))]
     fn change(&mut self, lo: usize, hi: usize)
         requires sound { Sound self.old }
         requires room { enough (edge_of self.old) (bytes_of self.old) ≡ true }

@@ -1,20 +1,20 @@
 -- What a change of a run needs, from what its two parts need.
-use Rattle.std.proofs.Common.{◌≡◌, ℕ, suc, ◌+◌, ◌<◌, ◌≤◌, Bool, true, false, not, List, length, get_or, set, sym, refl, ap, ◌∙◌, subst, inl, inr, ⊎_elim, arith}
+use Rattle.std.proofs.Common.{◌≡◌, ℕ, suc, ◌+◌, ◌<◌, ◌≤◌, Bool, false, not, List, length, get_or, set, sym, refl, ap, ◌∙◌, subst, inl, inr, ⊎_elim, arith}
 use Rattle.std.proofs.lemmas.List.{get_or-set_same, get_or-set_other, length-set}
-use Rattle.std.proofs.lemmas.Bool.{cond-true, cond-false, cases_eq}
+use Rattle.std.proofs.lemmas.Bool.{cond-false, cases_eq}
 use Rattle.std.proofs.lemmas.Bool.Decides.{nat_tests}
 use Rattle.octree.specs.declared.cells.Cell.{Cell}
 use Rattle.octree.specs.declared.cells.Change.{Change}
 use Rattle.octree.specs.declared.cells.Child.{Child}
-use Rattle.octree.specs.declared.cells.Child.TheVariants.{Empty, Solid, Split}
+use Rattle.octree.specs.declared.cells.Child.TheVariants.{Empty}
 use Rattle.octree.specs.declared.cells.Group.{Group}
 use Rattle.octree.specs.declared.cells.Kind.{Kind}
 use Rattle.octree.specs.declared.cells.Kind.TheVariants.{AllEmpty, AllSolid, Mixed}
 use Rattle.octree.specs.declared.cells.Part.{Part}
 use Rattle.octree.specs.declared.cells.Run.{Run}
 use Rattle.octree.specs.Regions.{width, origin, plus, start_of, need_of}
-use Rattle.octree.specs.Trees.{children_of, child_at, is_solid, solid_at, has_group}
-use Rattle.octree.specs.OnTheWay.{in_run, flipped, Lies, run_in, row_child, part_at, kind_of, turned_over, blend, wants, Shows, Tight, Planned, Halves, Ordered}
+use Rattle.octree.specs.Trees.{children_of, child_at, solid_at}
+use Rattle.octree.specs.OnTheWay.{in_run, flipped, Lies, run_in, row_child, part_at, kind_of, blend, wants, Shows, Tight, Planned, Halves, Ordered}
 use Rattle.octree.proofs.Eights.{sum8_two}
 use Rattle.octree.proofs.Places.{width_pos, child_below, run_part, run_none, rows_differ, part_lies}
 use Rattle.octree.proofs.NeedLaws.{Agree, need_agree, shows_agree, Parts, need_split, shows_wants, blend_shows}
@@ -54,36 +54,6 @@ plan_none gs n r w k t l e =
       few_before = omega (arith, width_pos n);
       few_after = omega (arith, width_pos n);
     }
-
--- a run of one cell
-run_cell : (w : Run) → Lies 0 w → w.from < w.to → in_run w origin ≡ true
-run_cell w m l = grind (arith, nat_tests)
-
-pub cell_flipped : (gs : List Group) (r : Child) (w : Run) → Tight gs 0 r → Lies 0 w → w.from < w.to → flipped w (solid_at gs 0 r) origin ≡ is_solid (turned_over r)
-cell_flipped gs Empty w t m l = cond-true (in_run w origin) true false (run_cell w m l)
-cell_flipped gs Solid w t m l = cond-true (in_run w origin) false true (run_cell w m l)
-cell_flipped gs (Split g) w t m l = absurd (omega arith)
-
-cell_shows : (p : Cell → Bool) (r : Child) → has_group r ≡ 0 → p origin ≡ is_solid r → Shows (kind_of r) 0 p
-cell_shows p Empty z e = record { empty = ap not e; full = e }
-cell_shows p Solid z e = record { empty = ap not e; full = e }
-cell_shows p (Split g) z e = absurd (omega arith)
-
-turned_leaf : (r : Child) → has_group (turned_over r) ≡ 0
-turned_leaf Empty = refl
-turned_leaf Solid = refl
-turned_leaf (Split g) = refl
-
-pub plan_cell : (gs : List Group) (lv : ℕ) (r : Child) (w : Run) (k : Kind) → lv ≡ 0 → Tight gs lv r → Lies lv w → w.from < w.to → k ≡ kind_of (turned_over r) → Planned gs lv r w (record { kind = k; before = 0; after = 0 })
-plan_cell gs lv r w k el t m l e =
-    let f = cell_flipped gs r w (subst (λ n. Tight gs n r) el t) (subst (λ n. Lies n w) el m) l in
-    subst (λ n. Planned gs n r w (record { kind = k; before = 0; after = 0 })) (sym el)
-    (record {
-      shows = subst (λ (x : Kind). Shows x 0 (flipped w (solid_at gs 0 r))) (sym e) (cell_shows (flipped w (solid_at gs 0 r)) (turned_over r) (turned_leaf r) f);
-      needs = refl;
-      few_before = omega arith;
-      few_after = omega arith;
-    })
 
 -- a region with children: what its two parts need
 own_most : (k : Kind) → wants k ≤ 1

@@ -8,7 +8,7 @@ use Rattle.octree.specs.declared.cells.Group.{Group}
 use Rattle.octree.specs.declared.cells.GroupId.{GroupId}
 use Rattle.octree.specs.declared.cells.Unused.{Unused}
 use Rattle.octree.specs.Trees.{no_group, one, index_of, freed_before, freed_at, idle, capacity}
-use Rattle.octree.specs.OnTheWay.{There, left, freed_last, Apart, Taken, Freed}
+use Rattle.octree.specs.OnTheWay.{There, freed_last, Apart, Taken, Freed}
 use Rattle.octree.proofs.Trees.{one_self}
 
 pub one_eq : (i j : ℕ) → i ≡ j → one (eqb i j) ≡ 1
@@ -64,14 +64,6 @@ module _ (gs : List Group) (u : Unused) (A : Apart gs u Empty) where
     spent = λ i. omega (arith, last_spent l i, ap (λ h. freed_at gs (u.freed - 1) h i) e);
     fewer = omega arith;
     marked = A.marked;
-  }
-
-  pub taken_fresh : u.freed ≤ 0 → 0 < left gs u → Taken gs u Empty (record { index = u.mark }) (record { mark = u.mark + 1; freed = u.freed; last = u.last })
-  taken_fresh l p = record {
-    within = omega (arith, A.marked);
-    spent = λ i. omega (arith, mark_more u.mark i);
-    fewer = omega (arith, A.marked);
-    marked = omega (arith, A.marked);
   }
 
 pub taken_own : (gs : List Group) (u : Unused) (g : GroupId) → Apart gs u (Split g) → Taken gs u (Split g) g u

@@ -3,20 +3,20 @@ use Rattle.std.proofs.Common.{◌≡◌, ℕ, suc, ◌+◌, ◌<◌, ◌≤◌, 
 use Rattle.std.proofs.lemmas.Bool.{cases_eq}
 use Rattle.octree.specs.declared.cells.Cell.{Cell}
 use Rattle.octree.specs.declared.cells.Child.{Child}
-use Rattle.octree.specs.declared.cells.Child.TheVariants.{Empty, Solid, Split}
+use Rattle.octree.specs.declared.cells.Child.TheVariants.{Empty}
 use Rattle.octree.specs.declared.cells.Group.{Group}
 use Rattle.octree.specs.declared.cells.Part.{Part}
 use Rattle.octree.specs.declared.cells.Run.{Run}
 use Rattle.octree.specs.declared.cells.Unused.{Unused}
 use Rattle.octree.specs.Regions.{width, origin, start_of, mixed, need_of}
-use Rattle.octree.specs.Trees.{children_of, child_at, which_child, minus, solid_at, has_group, has, group_count, uses, idle}
-use Rattle.octree.specs.OnTheWay.{in_run, flipped, Lies, part_at, kind_of, turned_over, blend, wants, Tight, Readable, left, Apart, Settled, Ready, Moved, Halves, Ordered}
+use Rattle.octree.specs.Trees.{children_of, child_at, which_child, minus, solid_at, has_group, has, group_count, uses}
+use Rattle.octree.specs.OnTheWay.{in_run, flipped, Lies, part_at, kind_of, blend, wants, Tight, Readable, left, Apart, Settled, Ready, Moved, Halves, Ordered}
 use Rattle.octree.proofs.Eights.{sum8_part, sum8_ext, sum8_two}
-use Rattle.octree.proofs.Places.{width_pos, cell_path, child_below, rest_inside, back_again, rows_differ, part_lies}
+use Rattle.octree.proofs.Places.{width_pos, child_below, rest_inside, back_again, rows_differ, part_lies}
 use Rattle.octree.proofs.NeedLaws.{Agree, need_agree, need_split, mixed_most, need_unmixed, shows_wants, shows_agree, blend_shows}
 use Rattle.octree.proofs.Trees.{tight_group, tight_child, tight_shows}
 use Rattle.octree.proofs.Stock.{one_le}
-use Rattle.octree.proofs.Planning.{from, flip_empty, cell_flipped, lower_below, higher_below, lower_agrees, higher_agrees, other_agrees}
+use Rattle.octree.proofs.Planning.{from, lower_below, higher_below, lower_agrees, higher_agrees, other_agrees}
 use Rattle.octree.proofs.Steps.{count8, uses8, Family, part_once, part_few, new_here, drawn_else, step_uses, step_count, step_family, step_kept, family_apart, settled_drawn, settled_tight, settled_shared, settled_total}
 
 -- what can be changed can be read
@@ -26,39 +26,6 @@ ready_readable gs u n r w R = record {
   tight = R.tight;
   there = λ i l. omega (arith, R.apart i, one_le u.mark i (omega (arith, R.marked, l)));
 }
-
--- ---- a run with no cell, and a single cell
-
-pub moved_none : (gs : List Group) (u : Unused) (n : ℕ) (r : Child) (w : Run) → Ready gs u n r w → w.to ≤ w.from → Moved gs u n r (flipped w (solid_at gs n r)) gs u r
-moved_none gs u n r w R l = record {
-  long = refl;
-  drawn = λ c m. flip_empty w (solid_at gs n r) l c;
-  tight = R.tight;
-  shared = λ i. refl;
-  total = refl;
-  kept = λ i z. refl;
-  marked = R.marked;
-}
-
-turned_groups : (r : Child) (i : ℕ) → has_group r ≡ 0 → (has (turned_over r) i ≡ has r i) × (has_group (turned_over r) ≡ 0)
-turned_groups Empty i z = (refl, refl)
-turned_groups Solid i z = (refl, refl)
-turned_groups (Split g) i z = absurd (omega arith)
-
-pub moved_cell : (gs : List Group) (u : Unused) (lv : ℕ) (r r' : Child) (w : Run) → lv ≡ 0 → Ready gs u lv r w → w.from < w.to → r' ≡ turned_over r → Moved gs u lv r (flipped w (solid_at gs lv r)) gs u r'
-moved_cell gs u lv r r' w el R l e =
-    let Z : Ready gs u 0 r w = subst (λ n. Ready gs u n r w) el R in
-    subst (λ n. Moved gs u n r (flipped w (solid_at gs n r)) gs u r') (sym el)
-    (subst (λ (x : Child). Moved gs u 0 r (flipped w (solid_at gs 0 r)) gs u x) (sym e)
-    (record {
-      long = refl;
-      drawn = λ c m. sym (ap (flipped w (solid_at gs 0 r)) (cell_path (omega (arith, m.0)) (omega (arith, m.1)) (omega (arith, m.2))) ∙ cell_flipped gs r w Z.tight Z.lies l);
-      tight = (turned_groups r 0 Z.tight).1;
-      shared = λ i. ap (λ m. m + idle gs u i) (turned_groups r i Z.tight).0;
-      total = omega (arith, (turned_groups r 0 Z.tight).1, Z.tight);
-      kept = λ i z. refl;
-      marked = Z.marked;
-    }))
 
 -- ---- the two children that change
 

@@ -45,6 +45,7 @@ impl<'a> Shape for FaceList<'a> {
         self.faces.len()
     }
 
+    #[tactic(auto, using(crate::proofs::EntryLaws::entry_of, crate::proofs::EntryLaws::entry_past))]
     fn entry(&self, i: usize) -> Entry {
         let faces = self.faces;
         if i < faces.len() {

@@ -28,11 +28,13 @@ fn corner(numbers: &[i32], at: usize) -> Point
 impl<'a> Shape for Nines<'a> {
     ghost entries = { λ s. by_nine s.numbers.now };
 
+    #[tactic(auto, using(crate::proofs::EntryLaws::count_even, crate::proofs::EntryLaws::count_odd))]
     fn count(&self) -> usize {
         let n = self.numbers.len();
         if n % 9 == 0 { n / 9 } else { n / 9 + 1 }
     }
 
+    #[tactic(auto, using(crate::proofs::EntryLaws::nine_of, crate::proofs::EntryLaws::nine_past))]
     fn entry(&self, i: usize) -> Entry {
         if i >= self.numbers.len() / 9 {
             return Entry::Hole;

@@ -51,6 +51,7 @@ impl<'a> Spans<'a> {
     }
 
     /// Whether cell `k` is solid.
+    #[tactic(auto, using(crate::proofs::CallLaws::odd_shown))]
     fn is_solid(&self, k: usize) -> bool
         requires sound { Sound self.now }
         requires within { k < volume_of self.now }

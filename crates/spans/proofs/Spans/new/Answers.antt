@@ -1,22 +1,13 @@
 use Rattle.std.proofs.Common.{ap, ◌∙◌}
-use Rattle.refusals.specs.BoxSides.{cells_of}
 use Rattle.refusals.specs.Sides.{is_side}
-use Rattle.toggles.specs.Present.{present, room}
-use Rattle.spans.specs.Changes.{suffice}
+use Rattle.toggles.specs.Present.{present}
 use Rattle.spans.proofs.CallLaws.{none_blank, none_sound}
 use Rattle.spans.proofs.Spans.new.Goals as goal
 
-pub returns : goal.returns
-returns c =
-    let t = c.new-list.result in
+pub returns-clause-sound : goal.returns-clause-sound
+returns-clause-sound c =
     let f = c.new-list.ensures in
-    let n = c.cells-edge.ensures in
-    record {
-      sound = record { sided = ap is_side n ∙ c.args.side.is_one; listed = none_sound _ (present t) f.empty };
-      edge = n;
-      loan = f.loan;
-      untouched = f.untouched;
-      none = f.empty;
-      blank = none_blank _ (present t) f.empty;
-      fits = ap (λ m. suffice m (room t)) n ∙ ap (suffice (cells_of c.args.side)) f.room;
-    }
+    record { sided = ap is_side c.cells-edge.ensures ∙ c.args.side.is_one; listed = none_sound _ (present c.new-list.result) f.empty }
+
+pub returns-clause-blank : goal.returns-clause-blank
+returns-clause-blank c = none_blank _ (present c.new-list.result) c.new-list.ensures.empty

@@ -1,4 +1,4 @@
-use Rattle.std.proofs.Common.{◌+◌, ◌<◌, length, get_or, take, sym, ap, ◌∙◌, arith}
+use Rattle.std.proofs.Common.{◌<◌, length, get_or, take, ap, arith}
 use Rattle.std.proofs.lemmas.List.{take_more}
 use Rattle.sheet.specs.Sheets.{line, total}
 use Rattle.sheet.proofs.Totals.{total_more}
@@ -10,4 +10,6 @@ loop-line-preserved c =
     let i = c.loop-line.line-index in
     let h : i < length ls = omega arith in
     let here = get_or ls i (line 0 0) in
-    (omega arith, ap (λ n. n + here.triangles) c.loop-line.invariant.1 ∙ sym (total_more (take i ls) here) ∙ ap total (sym (take_more ls i (line 0 0) h)))
+    let before = total_more (take i ls) here in
+    let more = ap total (take_more ls i (line 0 0) h) in
+    (omega arith, omega (arith, before, more))
