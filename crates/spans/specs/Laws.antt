@@ -3,9 +3,7 @@ use Rattle.std.specs.Prelude.{◌≡◌, ℕ, zero, suc, ◌≤◌, Bool, true, 
 use Rattle.std.proofs.Common.{◌∙◌, arith}
 use Rattle.std.proofs.lemmas.Bool.{le-leb, le-ltb, and_left}
 use Rattle.block.specs.Drawing.{blank}
-use Rattle.toggles.specs.declared.list.Toggles.{Toggles}
-use Rattle.toggles.specs.Present.{present, room}
-use Rattle.toggles.proofs.Sizes.{length_present}
+use Rattle.toggles.proofs.Sizes.{within_room}
 use Rattle.spans.specs.declared.Spans.{Spans}
 use Rattle.spans.specs.Changes.{ChangePlaces, changes, count, differs}
 use Rattle.spans.specs.Shown.{odd, shown, upto}
@@ -25,10 +23,6 @@ blank_fits b = le-leb (changes (volume_of b) blank) (length (lent_to b)) (omega 
 -- a drawing fits where there is room for its change places
 pub listed_fits : (m n : ℕ) (d : ℕ → Bool) (ps : List ℕ) → ChangePlaces m d ps → length ps ≤ n → nat_le (changes m d) n ≡ true
 listed_fits m n d ps h l = le-leb (changes m d) n (omega (arith, h.many))
-
--- the keys of a toggle list have room there
-pub within_room : {K : Type 0} (t : Toggles K) → length (present t) ≤ room t
-within_room t = let l = t.within in omega (arith, length_present t)
 
 -- the present drawing fits
 pub kept_fits : (b : Spans) → Sound b → fits_in b (drawing_of b) ≡ true

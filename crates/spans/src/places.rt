@@ -31,7 +31,7 @@ pub(crate) fn count_upto(places: &[u32], k: u32) -> usize
 }
 
 /// Toggles `first` and then `second`, where that can be done: `first` makes room, or there is room for both.
-#[tactic(auto, using(crate::specs::Laws::within_room, crate::proofs::StepLaws::turn_has, crate::proofs::StepLaws::turn_rises))]
+#[tactic(auto, using(toggles::proofs::Sizes::within_room, crate::proofs::StepLaws::turn_has, crate::proofs::StepLaws::turn_rises))]
 fn toggle_in_turn(list: &mut Toggles<u32>, first: u32, second: u32)
     requires rising { IsStrictlyIncreasing (present list.old) }
     requires fits { (has nat_eq (present list.old) first ≡ false) → length (present list.old) + 2 ≤ room list.old }

@@ -1,6 +1,6 @@
 use Rattle.std.proofs.Common.{◌≤◌, length, arith}
 use Rattle.toggles.specs.Present.{present, room}
-use Rattle.spans.specs.Laws.{within_room}
+use Rattle.toggles.proofs.Sizes.{within_room}
 use Rattle.spans.specs.Shown.{shown}
 use Rattle.spans.proofs.RunLaws.{ran_to_end, ran_within}
 use Rattle.spans.proofs.StepLaws.{toggle_has, toggle_refused, toggle_rises}
