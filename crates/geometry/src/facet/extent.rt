@@ -11,14 +11,14 @@ use crate::axis::Axis;
 use crate::bounded::make::HALF_WIDTH;
 
 /// The cells from `start` up to, and without, `end` on an axis.
-#[derive(Clone, Copy)]
+#[derive(Clone, Copy, Debug, PartialEq, Eq)]
 pub struct Span {
     pub start: usize,
     pub end: usize,
 }
 
 /// A box of cells, by its spans on the three axes.
-#[derive(Clone, Copy)]
+#[derive(Clone, Copy, Debug, PartialEq, Eq)]
 pub struct Extent {
     pub x: Span,
     pub y: Span,
