@@ -2,7 +2,7 @@
 use Rattle.std.proofs.Common.{◌≡◌, ℕ, ◌<◌, ◌≤◌, true, false, eqb, List, [], ◌∷◌, length, drop, sym, refl, ap, ◌∙◌, ⊎_elim, arith}
 use Rattle.std.proofs.lemmas.Bool.{cases_Bool, cond-true, cond-false}
 use Rattle.pattern.specs.Text.{grow, lines}
-use Rattle.pattern.specs.Read.{before, from}
+use Rattle.pattern.proofs.Cuts.{before, from}
 
 two : {a b : List ℕ} {us vs : List (List ℕ)} → a ≡ b → us ≡ vs → a ∷ us ≡ b ∷ vs
 two e f = cc

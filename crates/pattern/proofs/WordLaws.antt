@@ -2,7 +2,7 @@
 use Rattle.std.proofs.Common.{◌≡◌, ℕ, ◌≤◌, true, false, cond, eqb, List, [], ◌∷◌, length, sym, refl, ap, ◌∙◌, ⊎_elim, arith}
 use Rattle.std.proofs.lemmas.Bool.{cases_Bool, cond-true, cond-false}
 use Rattle.pattern.specs.Text.{grow, pieces, without_empty, words}
-use Rattle.pattern.specs.Read.{before, from, past_spaces}
+use Rattle.pattern.proofs.Cuts.{before, from, past_spaces}
 
 -- the spaces in front make no word
 pub words_past : (bs : List ℕ) → words bs ≡ words (past_spaces bs)

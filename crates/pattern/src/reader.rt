@@ -9,7 +9,7 @@ mod cursor;
 mod part;
 
 /// How many points and faces a part has.
-#[derive(Clone, Copy)]
+#[derive(Clone, Copy, Debug, PartialEq, Eq)]
 pub struct Counts {
     pub points: usize,
     pub faces: usize,

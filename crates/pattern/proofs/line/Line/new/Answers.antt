@@ -13,7 +13,7 @@ returns-then-is_comment c = record {
 pub returns-in-None : goal.returns-in-None
 unfolding said
 returns-in-None c = record {
-  said = ap of_words (sym c.in-None.ensures.0 ∙ ap words c.new-rest.ensures)
+  said = ap of_words (sym c.in-None.ensures.steps.0 ∙ ap words c.new-rest.ensures)
       ∙ ap (λ b. cond b nothing (of_words (words c.args.text.now))) c.if-is_comment.ensures;
   told = tt;
 }
@@ -22,8 +22,8 @@ pub returns-in-Some : goal.returns-in-Some
 unfolding said
 returns-in-Some c = record {
   said = c.line_of.ensures.said
-      ∙ ap (λ k. of_kind k (words c.next_word.new.self.rest.now)) (c.kind_of.ensures ∙ ap kind_of c.bytes.ensures)
-      ∙ ap of_words (sym c.in-Some.ensures.0 ∙ ap words c.new-rest.ensures)
+      ∙ ap (λ k. of_kind k (words c.next.new.self.rest.now)) (c.kind_of.ensures ∙ ap kind_of c.bytes.ensures)
+      ∙ ap of_words (sym c.in-Some.ensures.steps.0 ∙ ap words c.new-rest.ensures)
       ∙ ap (λ b. cond b nothing (of_words (words c.args.text.now))) c.if-is_comment.ensures;
   told = c.line_of.ensures.told;
 }
