@@ -1,5 +1,5 @@
 -- A text that is cut at a byte.
-use Rattle.std.proofs.Common.{◌≡◌, ℕ, suc, ◌+◌, ◌==◌, Bool, true, false, cond, not, eqb, List, [], ◌∷◌, take, drop, refl, ap, ◌∙◌, arith}
+use Rattle.std.proofs.Common.{◌≡◌, ℕ, suc, ◌+◌, ◌==◌, Bool, true, false, cond, not, eqb, List, [], ◌∷◌, take, drop, refl, ap, arith}
 use Rattle.std.specs.List.{position_or_len, prefix_len}
 
 -- the bytes before the first `stop`, and those from it on
@@ -23,11 +23,11 @@ one_more n = omega arith
 module _ (c : ℕ) (cs : List ℕ) (n : ℕ) where
   before_one : (b : Bool) (xs : List ℕ) → take n cs ≡ xs → take (cond (not b) (1 + n) 0) (c ∷ cs) ≡ cond b [] (c ∷ xs)
   before_one true xs e = refl
-  before_one false xs e = ap (λ k. take k (c ∷ cs)) (one_more n) ∙ ap (λ ys. c ∷ ys) e
+  before_one false xs e = rw (one_more n) (ap (λ ys. c ∷ ys) e)
 
   from_one : (b : Bool) (xs : List ℕ) → drop n cs ≡ xs → drop (cond (not b) (1 + n) 0) (c ∷ cs) ≡ cond b (c ∷ cs) xs
   from_one true xs e = refl
-  from_one false xs e = ap (λ k. drop k (c ∷ cs)) (one_more n) ∙ e
+  from_one false xs e = rw (one_more n) e
 
 pub before_is : (stop : ℕ) (bs : List ℕ) → take (position_or_len (λ b. b == stop) bs) bs ≡ before stop bs
 before_is stop [] = refl
@@ -43,5 +43,5 @@ past_is (c ∷ cs) = by_case (eqb c 32) (past_is cs)
   where
     by_case : (b : Bool) {xs : List ℕ} → drop (prefix_len (λ b. b == 32) cs) cs ≡ xs
         → drop (cond b (1 + prefix_len (λ b. b == 32) cs) 0) (c ∷ cs) ≡ cond b xs (c ∷ cs)
-    by_case true e = ap (λ k. drop k (c ∷ cs)) (one_more (prefix_len (λ b. b == 32) cs)) ∙ e
+    by_case true e = rw (one_more (prefix_len (λ b. b == 32) cs)) e
     by_case false e = refl
