@@ -16,7 +16,7 @@ pub struct Counts {
 }
 
 /// Reads a pattern text from the front. It moves only when a call succeeds.
-#[derive(Clone, Copy)]
+#[derive(Clone, Copy, Debug, PartialEq, Eq)]
 pub struct Reader<'a> {
     rest: &'a [u8],
     line: usize,

@@ -71,9 +71,7 @@ impl<'a> Reader<'a> {
             .step(Kind::Side)
             .map_err(|_| Refusal::StrayLine { line: at })?;
         let n = word.number().ok_or(Refusal::BadNumber { line: at })?;
-        let Ok(side) = BoxSide::new(n) else {
-            return Err(Refusal::OddSide { line: Some(at) });
-        };
+        let side = BoxSide::try_from(n).map_err(|_| Refusal::OddSide { line: Some(at) })?;
         self.side = Some(side);
         Ok(side)
     }
