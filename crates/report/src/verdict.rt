@@ -5,7 +5,7 @@ ghost use Rattle.geometry.specs.Closed.{Closed as SidesClose};
 ghost use Rattle.geometry.specs.Read.{triangle_of};
 ghost use Rattle.report.specs.Faces.{Collected, Means, point_named, triangle_named};
 
-use closing::{Closure, check_sides};
+use closing::check_sides;
 use geometry::{Face, Facet, Point, Side, Triangle};
 use std::alloc::{AllocError, Global};
 
@@ -86,8 +86,8 @@ fn closes(heap: Global, facets: &[Facet]) -> Result<bool, AllocError>
     };
     let mut shelf = vec![in heap; blank; 3 * triangles.len()]?;
     match check_sides(triangles.as_slice(), shelf.as_mut_slice()) {
-        Closure::Closed => Ok(true),
-        _ => Ok(false),
+        Ok(()) => Ok(true),
+        Err(_) => Ok(false),
     }
 }
 
