@@ -1,5 +1,5 @@
 -- From the tests of the code to `counts` and `first_crossed`.
-use Rattle.std.proofs.Common.{◌≡◌, ℕ, zero, suc, ◌<◌, ◌≤◌, Bool, true, false, cond, not, ◌&&◌, eqb, [], ◌∷◌, ℤ, pos, negsuc, ◌+ℤ◌, ◌-ℤ◌, ◌*ℤ◌, nat_abs, ◌≤ℤ◌, ◌<ℤ◌, sym, refl, ap, ◌∙◌, subst, true≢false, arith, w32, SFits, of_z}
+use Rattle.std.proofs.Common.{◌≡◌, ℕ, zero, suc, ◌<◌, ◌≤◌, Bool, true, false, cond, not, ◌&&◌, eqb, [], ◌∷◌, ℤ, pos, negsuc, ◌+ℤ◌, ◌-ℤ◌, ◌*ℤ◌, nat_abs, ◌≤ℤ◌, ◌<ℤ◌, sym, refl, ap, ◌∙◌, subst, true≢false, arith, min, w32, w64, SFits, of_z}
 use Rattle.std.proofs.lemmas.Int.{ints, by_lt_z}
 use Rattle.std.specs.Int.{int_div_euclid}
 use lib.Signed.{lt_z, le_z}
@@ -9,15 +9,23 @@ use Rattle.algebra.proofs.Order.{gap, nonneg_of_pos, mul_pos, mul_nonneg, lt_sca
 use Rattle.algebra.proofs.Tests.{le_true, le_false}
 use Rattle.geometry.specs.declared.mesh.Point.{Point}
 use Rattle.geometry.specs.declared.mesh.Triangle.{Triangle}
+use Rattle.geometry.specs.declared.axis.Axis.{Axis}
+use Rattle.geometry.specs.declared.axis.Axis.TheVariants.{X}
 use Rattle.geometry.specs.Geometry.{is_zero, normal_of, edge, ahead, counts, covers, plane, crosses}
 use Rattle.geometry.specs.Cells.{cell_at, centre, middle, least, first_crossed, sign, size}
-use Rattle.geometry.specs.Read.{◌·◌, Floor, flat_edge}
+use Rattle.geometry.specs.Numbers.{◌·◌, Floor}
+use Rattle.geometry.specs.Read.{first_of, second_of, flat_edge}
 use Rattle.geometry.proofs.Signs.{inner_up, inner_down, size_is}
 
--- the code's edge is that of the points
-pub edge_is : (a b : Point → ℤ) (u v q : Point) → flat_edge (a u) (b u) (a v) (b v) (a q) (b q) ≡ edge a b u v q
+-- the edge of points is that of their coordinates, seen along an axis
+pub edge_along : (axis : Axis) (u v q : Point)
+    → edge (first_of axis) (second_of axis) u v q
+    ≡ flat_edge (first_of axis u) (second_of axis u) (first_of axis v) (second_of axis v) (first_of axis q) (second_of axis q)
 unfolding flat_edge edge ◌·◌
-edge_is a b u v q = refl
+edge_along axis u v q = refl
+
+pub edge_yz : (u v q : Point) → edge (λ p. p.y) (λ p. p.z) u v q ≡ flat_edge u.y u.z v.y v.z q.y q.z
+edge_yz = edge_along X
 
 -- ---- a side
 
@@ -77,6 +85,11 @@ floors (negsuc a) (pos d) h =
     let s : 0 < d = omega (arith, ints) in record { low = omega (arith, ints); high = omega (arith, ints) }
 floors a (negsuc d) h = absurd (omega (arith, ints))
 
+pub floor_fits : (a d : ℤ) → pos 0 <ℤ d → SFits w64 a → SFits w64 (int_div_euclid a d)
+floor_fits (pos a) (pos d) h f = let s : 0 < d = omega (arith, ints) in omega (arith, ints)
+floor_fits (negsuc a) (pos d) h f = let s : 0 < d = omega (arith, ints) in omega (arith, ints)
+floor_fits a (negsuc d) h f = absurd (omega (arith, ints))
+
 -- a + s k is not negative from k = −q on, where q is a / s rounded down
 module _ (a s q : ℤ) (s_some : pos 0 <ℤ s) (fl : Floor a s q) where
   -- for a natural k: k < −q makes it negative, and −q ≤ k does not
@@ -112,23 +125,21 @@ module _ (a s q : ℤ) (n : ℕ) (s_some : pos 0 <ℤ s) (fl : Floor a s q) wher
   yes_from : (k : ℕ) → (pos 0 -ℤ q) ≤ℤ pos k → test k ≡ true
   yes_from k h = le_true _ _ (from_on a s q s_some fl (pos k) h)
 
-  pub first_at_once : (pos 0 -ℤ q) ≤ℤ pos 0 → 0 ≡ least test n
-  first_at_once h = least_is test n 0 (omega arith) (λ k l. absurd (omega arith)) (λ l. yes_from 0 h)
-
-  pub first_within : (r : ℕ) → pos r ≡ pos 0 -ℤ q → r < n → r ≡ least test n
-  first_within r e l = least_is test n r (omega arith) (λ k m. no k (below k r q e m)) (λ _. yes_from r (there r q e))
+  pub first_at_once : pos 0 ≤ℤ q → 0 ≡ least test n
+  first_at_once h = least_is test n 0 (omega arith) (λ k l. absurd (omega arith)) (λ l. yes_from 0 (turn q h))
     where
-      below : (k r : ℕ) (q : ℤ) → pos r ≡ pos 0 -ℤ q → k < r → pos k <ℤ (pos 0 -ℤ q)
-      below k r q e m = omega (arith, ints)
+      turn : (q : ℤ) → pos 0 ≤ℤ q → (pos 0 -ℤ q) ≤ℤ pos 0
+      turn q h = omega (arith, ints)
 
-      there : (r : ℕ) (q : ℤ) → pos r ≡ pos 0 -ℤ q → (pos 0 -ℤ q) ≤ℤ pos r
-      there r q e = omega (arith, ints)
-
-  pub first_beyond : (r : ℕ) → pos r ≡ pos 0 -ℤ q → n ≤ r → n ≡ least test n
-  first_beyond r e l = least_is test n n (omega arith) (λ k m. no k (below k r q e (omega arith))) (λ m. absurd (omega arith))
+  pub first_clipped : q <ℤ pos 0 → min n (nat_abs q) ≡ least test n
+  first_clipped h =
+      least_is test n (min n (nat_abs q)) (omega arith) (λ k m. no k (below q k h (omega arith))) (λ m. yes_from _ (there q n h m))
     where
-      below : (k r : ℕ) (q : ℤ) → pos r ≡ pos 0 -ℤ q → k < r → pos k <ℤ (pos 0 -ℤ q)
-      below k r q e m = omega (arith, ints)
+      below : (q : ℤ) (k : ℕ) → q <ℤ pos 0 → k < nat_abs q → pos k <ℤ (pos 0 -ℤ q)
+      below q k h m = omega (arith, ints)
+
+      there : (q : ℤ) (n : ℕ) → q <ℤ pos 0 → min n (nat_abs q) < n → (pos 0 -ℤ q) ≤ℤ pos (min n (nat_abs q))
+      there q n h m = omega (arith, ints)
 
 -- ---- along a row
 

@@ -58,8 +58,12 @@ size_is a = by_lt_z a (pos 0) (λ h. down a h ∙ size_down a h) (λ h. up a h �
     up : (a : ℤ) → pos 0 ≤ℤ a → pos (nat_abs a) ≡ a
     up a h = omega (arith, ints)
 
-pub minus : (a : ℤ) → pos 0 -ℤ a ≡ negsuc 0 *ℤ a
-minus a = omega (arith, ints)
+-- a negative sign turns a number
+pub turned : (n v : ℤ) → n <ℤ pos 0 → sign n *ℤ v ≡ pos 0 -ℤ v
+turned n v h = rw (sign_down n h) (minus v)
+  where
+    minus : (v : ℤ) → negsuc 0 *ℤ v ≡ pos 0 -ℤ v
+    minus v = omega (arith, ints)
 
 -- ---- the least and the greatest of three
 

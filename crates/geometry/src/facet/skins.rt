@@ -1,13 +1,14 @@
-ghost use Rattle.std.specs.Prelude.{◌≡◌, Bool, not, ◌&&◌, pos, ◌*ℤ◌, int_le};
-ghost use Rattle.geometry.specs.Geometry.{is_zero, normal_of, plane};
-ghost use Rattle.geometry.specs.Cells.{beside, beside_side, cell_at, centre, cut_by_plane, near, reaches, size, thick, thin, within_side};
-ghost use Rattle.geometry.specs.Read.{along, first_of, half, point_of, second_of, triangle_of};
+ghost use Rattle.std.specs.Prelude.{◌≡◌, pos};
+ghost use Rattle.geometry.specs.Geometry.{normal_of};
+ghost use Rattle.geometry.specs.Cells.{beside, beside_side, cell_at, close, cut_by_plane, met, near, reaches, thick, thin, within_side};
+ghost use Rattle.geometry.specs.Points.{point_of};
+ghost use Rattle.geometry.specs.Read.{along, first_of, half, second_of, triangle_of};
 
 use super::Facet;
 use crate::axis::Axis;
 use crate::axis::seen::{edge, is_inner, rises};
-use crate::bounded::Bounded;
-use crate::bounded::make::{HALF_WIDTH, end_of};
+use crate::bounded::make::HALF_WIDTH;
+use crate::bounded::{Bounded, Coordinate};
 use crate::mesh::Cell;
 
 /// Whether `q`, seen along the axis, is at the inner side of the line from `u` to `v`, or on it.
@@ -37,9 +38,9 @@ fn is_beside_side(axis: Axis, way: i32, u: Bounded, v: Bounded, c: Cell) -> bool
 impl Facet {
     /// Whether the line through `q` along the axis meets the closed triangle, and the triangle does not lie along it.
     fn is_met(&self, axis: Axis, q: Bounded) -> bool
-        ensures { result ≡ (not (is_zero (along axis (normal_of (triangle_of self.now)))) && within_side (first_of axis) (second_of axis) (along axis (normal_of (triangle_of self.now))) (point_of self.now.v0) (point_of self.now.v1) (point_of q) && within_side (first_of axis) (second_of axis) (along axis (normal_of (triangle_of self.now))) (point_of self.now.v1) (point_of self.now.v2) (point_of q) && within_side (first_of axis) (second_of axis) (along axis (normal_of (triangle_of self.now))) (point_of self.now.v2) (point_of self.now.v0) (point_of q)) }
+        ensures { result ≡ met (first_of axis) (second_of axis) (along axis (normal_of (triangle_of self.now))) (point_of q) (triangle_of self.now) }
     {
-        let n = axis.along(self.normal);
+        let n = axis.along(self.normal());
         n != 0
             && is_within_side(axis, n, self.v0, self.v1, q)
             && is_within_side(axis, n, self.v1, self.v2, q)
@@ -48,10 +49,10 @@ impl Facet {
 
     /// Whether the plane meets the line through `q` along the axis at most half a width from `q`.
     fn is_close(&self, axis: Axis, q: Bounded) -> bool
-        ensures { result ≡ int_le (size (plane (point_of q) (triangle_of self.now))) (half *ℤ size (along axis (normal_of (triangle_of self.now)))) }
+        ensures { result ≡ close (along axis (normal_of (triangle_of self.now))) half (point_of q) (triangle_of self.now) }
     {
-        let n = axis.along(self.normal);
-        self.plane(q).unsigned_abs() <= HALF_WIDTH as u64 * n.unsigned_abs() as u64
+        let n = axis.along(self.normal());
+        self.plane(q).unsigned_abs() <= HALF_WIDTH as u64 * u64::from(n.unsigned_abs())
     }
 
     /// Whether the line through `q` along the axis meets the closed triangle at most half a width from `q`.
@@ -63,6 +64,7 @@ impl Facet {
 
     /// Whether the triangle makes the cell thin: on some axis that its plane does not lie along, the line through the cell's centre meets
     /// the closed triangle at most half a width from the centre.
+    #[tactic(auto, using(crate::proofs::Casts::casts), unfolding(crate::specs::Cells::thin))]
     pub fn makes_thin(&self, c: Cell) -> bool
         ensures { result ≡ thin half (cell_at c.x c.y c.z) (triangle_of self.now) }
     {
@@ -74,17 +76,15 @@ impl Facet {
     fn reaches(&self, axis: Axis, k: u8) -> bool
         ensures { result ≡ reaches (along axis) half (pos k) (triangle_of self.now) }
     {
-        let a = axis.along(self.v0.point);
-        let b = axis.along(self.v1.point);
-        let c = axis.along(self.v2.point);
-        a.min(b).min(c) <= end_of(k, true) && end_of(k, false) <= a.max(b).max(c)
+        let (least, greatest) = self.reach(axis);
+        least <= Coordinate::end(k, true).value && Coordinate::end(k, false).value <= greatest
     }
 
     /// Whether the cell has corners on both sides of the triangle's plane, or on it. The two corners farthest from it decide.
     fn cuts(&self, c: Cell) -> bool
         ensures { result ≡ cut_by_plane half (cell_at c.x c.y c.z) (triangle_of self.now) }
     {
-        let n = self.normal;
+        let n = self.normal();
         let least = self.plane(Bounded::corner(c, n.x <= 0, n.y <= 0, n.z <= 0));
         let greatest = self.plane(Bounded::corner(c, n.x >= 0, n.y >= 0, n.z >= 0));
         least <= 0 && greatest >= 0
@@ -94,13 +94,14 @@ impl Facet {
     fn is_beside(&self, axis: Axis, c: Cell) -> bool
         ensures { result ≡ beside (first_of axis) (second_of axis) (along axis (normal_of (triangle_of self.now))) half (cell_at c.x c.y c.z) (triangle_of self.now) }
     {
-        let n = axis.along(self.normal);
+        let n = axis.along(self.normal());
         is_beside_side(axis, n, self.v0, self.v1, c)
             && is_beside_side(axis, n, self.v1, self.v2, c)
             && is_beside_side(axis, n, self.v2, self.v0, c)
     }
 
     /// Whether the triangle makes the cell thick: it touches the closed cell by the tests of extent, plane and sides.
+    #[tactic(auto, using(crate::proofs::Casts::casts), unfolding(crate::specs::Cells::thick))]
     pub fn makes_thick(&self, c: Cell) -> bool
         ensures { result ≡ thick half (cell_at c.x c.y c.z) (triangle_of self.now) }
     {

@@ -1,7 +1,8 @@
 use Rattle.std.proofs.Common.{arith}
 use Rattle.std.proofs.lemmas.Int.{ints, to_z-of_z}
 use Rattle.geometry.specs.Cells.{cell_at}
-use Rattle.geometry.specs.Read.{half, point_of}
+use Rattle.geometry.specs.Points.{point_of}
+use Rattle.geometry.specs.Read.{half}
 use Rattle.geometry.proofs.Corner.{beside_far}
 use Rattle.geometry.proofs.facet.skins.is_beside_side.Goals as goal
 

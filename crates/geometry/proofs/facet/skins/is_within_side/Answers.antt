@@ -1,10 +1,10 @@
 use Rattle.std.proofs.Common.{arith}
 use Rattle.std.proofs.lemmas.Int.{to_z-of_z}
-use Rattle.geometry.specs.Read.{first_of, second_of, point_of}
-use Rattle.geometry.proofs.Crossing.{edge_is}
+use Rattle.geometry.specs.Points.{point_of}
+use Rattle.geometry.proofs.Crossing.{edge_along}
 use Rattle.geometry.proofs.facet.skins.is_within_side.Goals as goal
 
 pub returns : goal.returns
 returns c =
-    let e = edge_is (first_of c.args.axis) (second_of c.args.axis) (point_of c.args.u) (point_of c.args.v) (point_of c.args.q) in
+    let e = edge_along c.args.axis (point_of c.args.u) (point_of c.args.v) (point_of c.args.q) in
     grind (arith, to_z-of_z)
