@@ -10,7 +10,6 @@ use Rattle.algebra.proofs.Tests.{le_true, le_false}
 use Rattle.geometry.specs.declared.mesh.Point.{Point}
 use Rattle.geometry.specs.declared.mesh.Triangle.{Triangle}
 use Rattle.geometry.specs.declared.axis.Axis.{Axis}
-use Rattle.geometry.specs.declared.axis.Axis.TheVariants.{X}
 use Rattle.geometry.specs.Geometry.{is_zero, normal_of, edge, ahead, counts, covers, plane, crosses}
 use Rattle.geometry.specs.Cells.{cell_at, centre, middle, least, first_crossed, sign, size}
 use Rattle.geometry.specs.Numbers.{◌·◌, Floor}
@@ -24,10 +23,19 @@ pub edge_along : (axis : Axis) (u v q : Point)
 unfolding flat_edge edge ◌·◌
 edge_along axis u v q = refl
 
-pub edge_yz : (u v q : Point) → edge (λ p. p.y) (λ p. p.z) u v q ≡ flat_edge u.y u.z v.y v.z q.y q.z
-edge_yz = edge_along X
-
 -- ---- a side
+
+-- a product with a number below 0 is above 0 where the number is below it
+pub lt_turned : (a k : ℤ) → k <ℤ pos 0 → lt_z (pos 0) (a *ℤ k) ≡ lt_z a (pos 0)
+lt_turned a k h =
+    ap (lt_z (pos 0)) (ring (a ∷ k ∷ []) (var 0 ⊗ var 1) ((num (pos 0) ⊖ var 0) ⊗ (num (pos 0) ⊖ var 1)) refl)
+    ∙ lt_scaled (pos 0 -ℤ a) (pos 0 -ℤ k) (over k h) ∙ turn a
+  where
+    over : (k : ℤ) → k <ℤ pos 0 → pos 0 <ℤ (pos 0 -ℤ k)
+    over k h = omega (arith, ints)
+
+    turn : (a : ℤ) → lt_z (pos 0) (pos 0 -ℤ a) ≡ lt_z a (pos 0)
+    turn a = grind (arith, ints)
 
 module _ (p a b : Point) where
   abbrev e : ℤ
@@ -50,15 +58,9 @@ module _ (p a b : Point) where
 
   -- the side goes down past the height
   pub downward : le_z a.z p.z ≡ false → le_z b.z p.z ≡ true → lt_z e (pos 0) ≡ counts p a b
-  downward h k =
-      turn e ∙ sym (lt_scaled (pos 0 -ℤ e) (a.z -ℤ b.z) (fall a.z b.z p.z h k))
-      ∙ ap (lt_z (pos 0)) (ring (e ∷ a.z ∷ b.z ∷ []) ((num (pos 0) ⊖ var 0) ⊗ (var 1 ⊖ var 2)) (var 0 ⊗ (var 2 ⊖ var 1)) refl)
-      ∙ sym (ap (λ x. (x ⊻ le_z b.z p.z) && lt_z (pos 0) (ahead p a b)) h ∙ ap (λ x. x && lt_z (pos 0) (ahead p a b)) k)
+  downward h k = sym (lt_turned e (b.z -ℤ a.z) (fall a.z b.z p.z h k)) ∙ sym (ap (λ x. (x ⊻ le_z b.z p.z) && lt_z (pos 0) (ahead p a b)) h ∙ ap (λ x. x && lt_z (pos 0) (ahead p a b)) k)
     where
-      turn : (n : ℤ) → lt_z n (pos 0) ≡ lt_z (pos 0) (pos 0 -ℤ n)
-      turn n = grind (arith, ints)
-
-      fall : (u v z : ℤ) → le_z u z ≡ false → le_z v z ≡ true → pos 0 <ℤ (u -ℤ v)
+      fall : (u v z : ℤ) → le_z u z ≡ false → le_z v z ≡ true → (v -ℤ u) <ℤ pos 0
       fall u v z h k = grind (arith, ints)
 
 -- ---- the first crossed cell

@@ -17,3 +17,10 @@ pub(crate) struct Flat {
     pub(crate) a: Coordinate,
     pub(crate) b: Coordinate,
 }
+
+/// A triangle seen along an axis. `way` is its normal's component along the axis; the sign tells which side of a line is the inner one.
+#[derive(Clone, Copy, Debug, PartialEq, Eq)]
+pub(crate) struct View {
+    pub(crate) axis: Axis,
+    pub(crate) way: i32,
+}

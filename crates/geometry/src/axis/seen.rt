@@ -1,9 +1,10 @@
 ghost use Rattle.std.specs.Prelude.{◌≡◌, if◌then◌else◌, pos, ◌-ℤ◌, ◌*ℤ◌, int_le};
 ghost use Rattle.geometry.specs.Cells.{cell_at, low, high, sign};
+ghost use Rattle.geometry.specs.Geometry.{edge};
 ghost use Rattle.geometry.specs.Points.{point_of};
 ghost use Rattle.geometry.specs.Read.{first_of, second_of, along, half, flat_edge};
 
-use super::{Axis, Flat};
+use super::{Axis, Flat, View};
 use crate::arith::{det, diff};
 use crate::bounded::{Bounded, Coordinate};
 use crate::mesh::{Cell, Point};
@@ -41,6 +42,13 @@ impl Axis {
         }
     }
 
+    /// Which side of the line from `u` to `v`, seen along the axis, the point `q` is on, and how far, times the length from `u` to `v`.
+    pub(crate) fn edge(self, u: Bounded, v: Bounded, q: Bounded) -> i32
+        ensures { result ≡ edge (first_of self) (second_of self) (point_of u) (point_of v) (point_of q) }
+    {
+        edge(self.seen(u), self.seen(v), self.seen(q))
+    }
+
     /// A corner of the cell, seen along the axis, at the high ends that the flags name.
     pub(crate) fn corner(self, c: Cell, a_up: bool, b_up: bool) -> Flat
         ensures a { result.a.value ≡ (if a_up then high half (first_of self (cell_at c.x c.y c.z)) else low half (first_of self (cell_at c.x c.y c.z))) }
@@ -63,7 +71,7 @@ impl Axis {
     }
 }
 
-/// Which side of the line from `u` to `v` the point `q` is on, and how far, times the length from `u` to `v`.
+/// The same of points that are seen along an axis.
 #[tactic(auto, using(crate::proofs::Casts::casts), unfolding(crate::specs::Read::flat_edge))]
 pub(crate) fn edge(u: Flat, v: Flat, q: Flat) -> i32
     ensures { result ≡ flat_edge u.a.value u.b.value v.a.value v.b.value q.a.value q.b.value }
@@ -76,20 +84,22 @@ pub(crate) fn edge(u: Flat, v: Flat, q: Flat) -> i32
     ).value
 }
 
-/// Whether the line from `u` to `v` has this value at its inner side, or 0; the sign of `way` tells which side is the inner one.
-pub(crate) fn is_inner(way: i32, value: i32) -> bool
-    ensures { result ≡ int_le (pos 0) (sign way *ℤ value) }
-{
-    if way >= 0 { value >= 0 } else { value <= 0 }
-}
+impl View {
+    /// Whether a line has this value at its inner side, or 0.
+    pub(crate) fn is_inner(self, value: i32) -> bool
+        ensures { result ≡ int_le (pos 0) (sign self.way *ℤ value) }
+    {
+        if self.way >= 0 { value >= 0 } else { value <= 0 }
+    }
 
-/// Whether it goes up from `from` to `to`, or neither up nor down; the sign of `way` tells which way is up.
-pub(crate) fn rises(way: i32, from: Coordinate, to: Coordinate) -> bool
-    ensures { result ≡ int_le (pos 0) (sign way *ℤ (to.value -ℤ from.value)) }
-{
-    if way >= 0 {
-        from.value <= to.value
-    } else {
-        to.value <= from.value
+    /// Whether it goes up from `from` to `to`, or neither up nor down, where `way` tells which way is up.
+    pub(crate) fn rises(self, from: Coordinate, to: Coordinate) -> bool
+        ensures { result ≡ int_le (pos 0) (sign self.way *ℤ (to.value -ℤ from.value)) }
+    {
+        if self.way >= 0 {
+            from.value <= to.value
+        } else {
+            to.value <= from.value
+        }
     }
 }

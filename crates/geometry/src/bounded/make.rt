@@ -11,6 +11,9 @@ use crate::mesh::{Cell, Point};
 /// Half the width of a cell. All that depends on the width depends on it by this constant.
 pub const HALF_WIDTH: i32 = 8;
 
+/// The width of a cell.
+pub const WIDTH: i64 = 2 * HALF_WIDTH as i64;
+
 impl Coordinate {
     /// The coordinate, if it is in range.
     fn new(value: i32) -> Option<Coordinate>

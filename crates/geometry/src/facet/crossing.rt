@@ -7,9 +7,8 @@ ghost use Rattle.geometry.specs.Read.{half, triangle_of};
 
 use super::Facet;
 use crate::axis::Axis;
-use crate::axis::seen::edge;
 use crate::bounded::Bounded;
-use crate::bounded::make::HALF_WIDTH;
+use crate::bounded::make::WIDTH;
 use crate::mesh::{Cell, Row};
 
 /// Whether the side from `a` to `b` passes the height of `p`, at a y greater than that of `p`.
@@ -20,7 +19,7 @@ pub(crate) fn side_counts(a: Bounded, b: Bounded, p: Bounded) -> bool
     if (a.z.value <= z) == (b.z.value <= z) {
         return false;
     }
-    let ahead = edge(Axis::X.seen(a), Axis::X.seen(b), Axis::X.seen(p));
+    let ahead = Axis::X.edge(a, b, p);
     if a.z.value <= z { ahead > 0 } else { ahead < 0 }
 }
 
@@ -97,6 +96,6 @@ impl Facet {
     fn step(&self) -> i64
         ensures { result ≡ (half +ℤ half) *ℤ size (normal_of (triangle_of self.now)).x }
     {
-        2 * i64::from(HALF_WIDTH) * i64::from(self.normal.x.value.abs())
+        WIDTH * i64::from(self.normal.x.value.abs())
     }
 }

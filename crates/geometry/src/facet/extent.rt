@@ -8,7 +8,7 @@ ghost use Rattle.geometry.specs.Read.{along, half, triangle_of};
 use super::Facet;
 use super::crossing::first_at;
 use crate::axis::Axis;
-use crate::bounded::make::HALF_WIDTH;
+use crate::bounded::make::WIDTH;
 
 /// The cells from `start` up to, and without, `end` on an axis.
 #[derive(Clone, Copy, Debug, PartialEq, Eq)]
@@ -24,9 +24,6 @@ pub struct Extent {
     pub y: Span,
     pub z: Span,
 }
-
-/// The width of a cell.
-const WIDTH: i64 = 2 * HALF_WIDTH as i64;
 
 /// Of the first `n` cells on an axis, the first that ends at `least` or behind it, or `n`.
 fn first_reaching(least: i32, n: usize) -> usize
