@@ -1,13 +1,13 @@
 //! What an octree is made of.
 
 /// The name of a group: its place in the lent memory.
-#[derive(Clone, Copy)]
+#[derive(Clone, Copy, Debug, PartialEq, Eq)]
 pub struct GroupId {
     pub(crate) index: u32,
 }
 
 /// A region of the box: all empty, all solid, or split into the eight children that a group holds.
-#[derive(Clone, Copy)]
+#[derive(Clone, Copy, Debug, PartialEq, Eq)]
 pub enum Child {
     Empty,
     Solid,
@@ -15,7 +15,7 @@ pub enum Child {
 }
 
 /// The eight children of a region. Bit 0 of a child's place tells the upper half along x, bit 1 along y and bit 2 along z.
-#[derive(Clone, Copy)]
+#[derive(Clone, Copy, Debug, PartialEq, Eq)]
 pub struct Group {
     pub(crate) children: [Child; 8],
 }
@@ -28,7 +28,7 @@ impl Group {
 }
 
 /// What a region holds.
-#[derive(Clone, Copy)]
+#[derive(Clone, Copy, Debug, PartialEq, Eq)]
 pub enum Kind {
     AllEmpty,
     AllSolid,
@@ -36,7 +36,7 @@ pub enum Kind {
 }
 
 /// A cell, by its places along the three axes, counted from where its region begins.
-#[derive(Clone, Copy)]
+#[derive(Clone, Copy, Debug, PartialEq, Eq)]
 pub struct Cell {
     pub x: usize,
     pub y: usize,
@@ -44,7 +44,7 @@ pub struct Cell {
 }
 
 /// The cells from `from` up to, and without, `to` of the row (y, z) of a region.
-#[derive(Clone, Copy)]
+#[derive(Clone, Copy, Debug, PartialEq, Eq)]
 pub struct Run {
     pub from: usize,
     pub to: usize,
@@ -53,7 +53,7 @@ pub struct Run {
 }
 
 /// A child of a region, and the part of a run that lies in it, counted from where the child begins.
-#[derive(Clone, Copy)]
+#[derive(Clone, Copy, Debug, PartialEq, Eq)]
 pub struct Part {
     pub child: usize,
     pub run: Run,
@@ -61,7 +61,7 @@ pub struct Part {
 
 /// What changing a run does to a region: what the region holds then, and how many of the regions that the run meets are mixed before and
 /// after.
-#[derive(Clone, Copy)]
+#[derive(Clone, Copy, Debug, PartialEq, Eq)]
 pub struct Change {
     pub kind: Kind,
     pub before: usize,
@@ -69,7 +69,7 @@ pub struct Change {
 }
 
 /// The groups that no region uses: those that were freed, and those that were never used.
-#[derive(Clone, Copy)]
+#[derive(Clone, Copy, Debug, PartialEq, Eq)]
 pub struct Unused {
     /// No group from here on was ever used.
     pub mark: u32,

@@ -79,11 +79,7 @@ impl Child {
 pub(crate) fn kinds(children: [Child; 8]) -> [Kind; 8]
     ensures { (k : ℕ) → k < 8 → slice_index_or result k AllEmpty ≡ kind_of (slice_index_or children k Empty) }
 {
-    let mut kinds = [Kind::Mixed; 8];
-    for k in 0..8 {
-        kinds[k] = children[k].kind();
-    }
-    kinds
+    children.map(|c| c.kind())
 }
 
 /// What eight children hold together.
