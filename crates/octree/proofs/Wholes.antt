@@ -1,5 +1,5 @@
 -- What the calls on a whole octree rest on.
-use Rattle.std.proofs.Common.{◌≡◌, ℕ, ◌-◌, ◌*◌, ◌≤◌, Bool, true, false, ltb, leb, List, length, sym, refl, ap, ◌∙◌, ⊎_elim, arith, lit≤}
+use Rattle.std.proofs.Common.{◌≡◌, ℕ, ◌-◌, ◌*◌, ◌≤◌, Bool, true, false, ltb, leb, Option, None, List, length, sym, refl, ap, ◌∙◌, subst, ⊎_elim, arith, lit≤}
 use mathlib.Core.Path.{fun_ext}
 use Rattle.std.proofs.lemmas.Bool.{leb-true, le-leb, lt-leb, cases_lt, cond_both}
 use Rattle.refusals.specs.Sides.{is_side}
@@ -11,11 +11,12 @@ use Rattle.octree.specs.declared.cells.Change.{Change}
 use Rattle.octree.specs.declared.cells.Child.{Child}
 use Rattle.octree.specs.declared.cells.Child.TheVariants.{Empty}
 use Rattle.octree.specs.declared.cells.Group.{Group}
+use Rattle.octree.specs.declared.cells.GroupId.{GroupId}
 use Rattle.octree.specs.declared.cells.Run.{Run}
-use Rattle.octree.specs.declared.cells.Unused.{Unused}
+use Rattle.octree.specs.declared.store.Store.{Store}
 use Rattle.octree.specs.Laws.{blank_need}
 use Rattle.octree.specs.Regions.{level_of, origin, need_of, needed, room}
-use Rattle.octree.specs.Trees.{cell_of, solid_at, shown, freed_at, Whole}
+use Rattle.octree.specs.Trees.{cell_of, solid_at, shown, FreedList, freed_at, Whole}
 use Rattle.octree.specs.OnTheWay.{flipped, Lies, Tight, Readable, Planned, left, Ready, Moved}
 use Rattle.octree.proofs.NeedLaws.{most, need_most}
 use Rattle.octree.proofs.Trees.{leaf_uses, leaf_count}
@@ -27,7 +28,10 @@ use Rattle.octree.proofs.Boxes.{box_low, box_width, shown_cell, shown_need, chan
 few_needed : (n : ℕ) → is_side n ≡ true → most (level_of n) ≤ 37449
 few_needed = by_side (λ n. most (level_of n) ≤ 37449) (lit≤ tt) (lit≤ tt) (lit≤ tt) (lit≤ tt) (lit≤ tt) (lit≤ tt)
 
-module _ (n : ℕ) (gs : List Group) (r : Child) (u : Unused) (W : Whole n gs r u) where
+module _ (n : ℕ) (st : Store) (r : Child) (W : Whole n st r) where
+  abbrev gs : List Group
+  gs = st.groups.now
+
   whole_tight : Tight gs (level_of n) r
   whole_tight = W.exact ∙ shown_need n W.a_side gs r
 
@@ -35,7 +39,7 @@ module _ (n : ℕ) (gs : List Group) (r : Child) (u : Unused) (W : Whole n gs r 
   whole_readable = record {
     low = box_low n W.a_side;
     tight = whole_tight;
-    there = λ i l. omega (arith, W.once i, one_le u.mark i (omega (arith, W.marked, l)));
+    there = λ i l. omega (arith, W.once i, one_le st.mark i (omega (arith, W.counted.marked, l)));
   }
 
   module _ (w : Run) (l : Lies (level_of n) w) where
@@ -49,33 +53,36 @@ module _ (n : ℕ) (gs : List Group) (r : Child) (u : Unused) (W : Whole n gs r 
     need_few = omega (arith, need_is, need_most (level_of n) (flipped w (solid_at gs (level_of n) r)) origin, few_needed n W.a_side)
 
     -- the drawing fits with the run changed where the groups that it needs more are there
-    pub whole_takes : (q : Change) → Planned gs (level_of n) r w q → leb (q.after - q.before) (left gs u) ≡ room n (length gs) after
+    pub whole_takes : (q : Change) → Planned gs (level_of n) r w q → leb (q.after - q.before) (left st) ≡ room n (length gs) after
     unfolding room
     whole_takes q P = ⊎_elim
-        (λ h. lt-leb (q.after - q.before) (left gs u) h ∙ sym (lt-leb (needed n after) (length gs) (omega (arith, h, need_is, P.needs, whole_tight, W.count, W.marked, need_few))))
-        (λ h. le-leb (q.after - q.before) (left gs u) h ∙ sym (le-leb (needed n after) (length gs) (omega (arith, h, need_is, P.needs, whole_tight, W.count, W.marked))))
-        (cases_lt (left gs u) (q.after - q.before))
+        (λ h. lt-leb (q.after - q.before) (left st) h ∙ sym (lt-leb (needed n after) (length gs) (omega (arith, h, need_is, P.needs, whole_tight, W.count, W.counted.marked, need_few))))
+        (λ h. le-leb (q.after - q.before) (left st) h ∙ sym (le-leb (needed n after) (length gs) (omega (arith, h, need_is, P.needs, whole_tight, W.count, W.counted.marked))))
+        (cases_lt (left st) (q.after - q.before))
 
-    pub whole_ready : room n (length gs) after ≡ true → Ready gs u (level_of n) r w
+    pub whole_ready : room n (length gs) after ≡ true → Ready st (level_of n) r w
     unfolding room
     whole_ready f = record {
       low = box_low n W.a_side;
       tight = whole_tight;
       apart = λ i. omega (arith, W.once i);
-      few = omega (arith, W.count, W.marked);
-      marked = W.marked;
+      few = omega (arith, W.count, W.counted.marked);
+      counted = W.counted;
       lies = l;
-      fits = omega (arith, leb-true (needed n after) (length gs) f, need_is, need_few, W.count, W.marked);
+      fits = omega (arith, leb-true (needed n after) (length gs) f, need_is, need_few, W.count, W.counted.marked);
     }
 
-    module _ (gs' : List Group) (r' : Child) (u' : Unused) (M : Moved gs u (level_of n) r (flipped w (solid_at gs (level_of n) r)) gs' u' r') where
-      pub whole_kept : Whole n gs' r' u'
+    module _ (st' : Store) (r' : Child) (M : Moved st (level_of n) r (flipped w (solid_at gs (level_of n) r)) st' r') where
+      abbrev gs' : List Group
+      gs' = st'.groups.now
+
+      pub whole_kept : Whole n st' r'
       whole_kept = record {
         a_side = W.a_side;
         exact = M.tight ∙ sym (shown_need n W.a_side gs' r');
         once = λ i. M.shared i ∙ W.once i;
-        count = omega (arith, M.total, M.long, M.marked, W.count, W.marked);
-        marked = M.marked;
+        count = omega (arith, M.total, M.long, M.counted.marked, W.count, W.counted.marked);
+        counted = M.counted;
       }
 
       pub whole_drawn : shown n gs' r' ≡ after
@@ -87,14 +94,18 @@ pub fresh_blank : (n : ℕ) (gs : List Group) → shown n gs Empty ≡ blank
 unfolding shown
 fresh_blank n gs = fun_ext (λ k. cond_both (ltb k (n * n * n)) _ false (λ b. b ≡ false) (λ e. empty_dark gs (level_of n) (cell_of n k)) (λ e. refl))
 
-pub fresh_whole : (n : ℕ) (gs : List Group) (u : Unused) → is_side n ≡ true → u.mark ≡ 0 → u.freed ≡ 0 → Whole n gs Empty u
+pub fresh_whole : (n : ℕ) (s : Store) → is_side n ≡ true → s.mark ≡ 0 → s.freed ≡ 0 → s.last ≡ None → Whole n s Empty
 unfolding needed
-fresh_whole n gs u s em ef = record {
-  a_side = s;
-  exact = leaf_count gs (level_of n) Empty refl ∙ sym (ap (needed n) (fresh_blank n gs) ∙ blank_need (level_of n) origin);
-  once = λ i. omega (arith, leaf_uses gs (level_of n) Empty i refl, one_le u.mark i (omega (arith, em)), ap (λ m. freed_at gs m u.last.index i) ef);
-  count = omega (arith, leaf_count gs (level_of n) Empty refl, em, ef);
-  marked = omega (arith, em);
+fresh_whole n s a em ef el = record {
+  a_side = a;
+  exact = leaf_count s.groups.now (level_of n) Empty refl ∙ sym (ap (needed n) (fresh_blank n s.groups.now) ∙ blank_need (level_of n) origin);
+  once = λ i. omega (arith, leaf_uses s.groups.now (level_of n) Empty i refl, one_le s.mark i (omega (arith, em)), ap (λ m. freed_at s.groups.now m s.last i) ef);
+  count = omega (arith, leaf_count s.groups.now (level_of n) Empty refl, em, ef);
+  counted = record {
+    marked = omega (arith, em);
+    below = omega (arith, ef);
+    listed = subst (λ m. FreedList s.groups.now m s.last) (sym ef) (subst (λ (l : Option GroupId). FreedList s.groups.now 0 l) (sym el) tt);
+  };
 }
 
 -- ---- the run of a flip

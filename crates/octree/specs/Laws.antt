@@ -7,7 +7,7 @@ use Rattle.octree.specs.declared.Octree.{Octree}
 use Rattle.octree.specs.declared.cells.Cell.{Cell}
 use Rattle.octree.specs.declared.cells.Child.{Child}
 use Rattle.octree.specs.declared.cells.Group.{Group}
-use Rattle.octree.specs.declared.cells.Unused.{Unused}
+use Rattle.octree.specs.declared.store.Store.{Store}
 use Rattle.octree.specs.Meaning.{Tied}
 use Rattle.octree.specs.Regions.{all_are, mixed, need_of, needed, room, level_of, origin}
 use Rattle.octree.specs.Trees.{shown, Whole}
@@ -34,9 +34,9 @@ unfolding needed room
 blank_fits n m = le-leb (needed n blank) m (omega (arith, blank_need (level_of n) origin))
 
 -- what a sound octree shows fits
-pub shown_fits : (n : ℕ) (gs : List Group) (r : Child) (u : Unused) → Whole n gs r u → room n (length gs) (shown n gs r) ≡ true
+pub shown_fits : (n : ℕ) (s : Store) (r : Child) → Whole n s r → room n (length s.groups.now) (shown n s.groups.now r) ≡ true
 unfolding room
-shown_fits n gs r u w = le-leb (needed n (shown n gs r)) (length gs) (omega (arith, w.exact, w.count, w.marked))
+shown_fits n s r w = le-leb (needed n (shown n s.groups.now r)) (length s.groups.now) (omega (arith, w.exact, w.count, w.counted.marked))
 
 -- no cell outside the box is solid
 pub shown_within : (n : ℕ) (gs : List Group) (r : Child) (k : ℕ) → n * n * n ≤ k → shown n gs r k ≡ false

@@ -11,7 +11,7 @@ edge_of o = o.edge
 
 -- the groups that it is lent
 abbrev pub groups_of : Octree → List Group
-groups_of o = o.groups.now
+groups_of o = o.store.groups.now
 
 -- which cells are solid
 abbrev pub drawing_of : Octree → ℕ → Bool
@@ -23,8 +23,8 @@ fits_in o = room (edge_of o) (length (groups_of o))
 
 -- what making an octree gives, and every call keeps
 abbrev pub Sound : Octree → Type 0
-Sound o = Whole (edge_of o) (groups_of o) o.root o.unused
+Sound o = Whole (edge_of o) o.store o.root
 
 -- the second octree has the groups of the same loan
 abbrev pub Tied : Octree → Octree → Type 0
-Tied o p = p.groups.ghost_name ≡ o.groups.ghost_name
+Tied o p = p.store.groups.ghost_name ≡ o.store.groups.ghost_name

@@ -1,5 +1,8 @@
 //! What an octree is made of.
 
+ghost use Rattle.std.specs.Prelude.{◌≡◌};
+ghost use Rattle.octree.specs.Trees.{group_of};
+
 /// The name of a group: its place in the lent memory.
 #[derive(Clone, Copy, Debug, PartialEq, Eq)]
 pub struct GroupId {
@@ -12,6 +15,30 @@ pub enum Child {
     Empty,
     Solid,
     Split(GroupId),
+}
+
+impl Child {
+    /// The group that the child names, if it names one.
+    pub fn group(self) -> Option<GroupId>
+        ensures { result ≡ group_of self }
+    {
+        match self {
+            Child::Empty | Child::Solid => None,
+            Child::Split(id) => Some(id),
+        }
+    }
+}
+
+/// The child that names a group, or an empty one where there is none.
+impl From<Option<GroupId>> for Child {
+    ghost from_gives = { λ group child. group_of child ≡ group };
+
+    fn from(group: Option<GroupId>) -> Child {
+        match group {
+            Some(id) => Child::Split(id),
+            None => Child::Empty,
+        }
+    }
 }
 
 /// The eight children of a region. Bit 0 of a child's place tells the upper half along x, bit 1 along y and bit 2 along z.
@@ -66,15 +93,4 @@ pub struct Change {
     pub kind: Kind,
     pub before: usize,
     pub after: usize,
-}
-
-/// The groups that no region uses: those that were freed, and those that were never used.
-#[derive(Clone, Copy, Debug, PartialEq, Eq)]
-pub struct Unused {
-    /// No group from here on was ever used.
-    pub mark: u32,
-    /// How many groups below the mark were freed.
-    pub freed: u32,
-    /// The group that was freed last, if any was. Each freed group names the one freed before it in its first child.
-    pub last: GroupId,
 }

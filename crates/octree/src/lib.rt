@@ -19,21 +19,20 @@ mod tree;
 mod turn;
 
 pub use cells::Group;
-use cells::{Cell, Child, Run, Unused};
+use cells::{Cell, Child, Run};
 use region::{level_of, side_of};
+use store::Store;
 use tree::{look, plan};
 use turn::turn;
 
 /// A box of N × N × N cells over any number of lent groups. A drawing fits if no more of its regions of side 2 or more have both solid and
-/// empty cells than there are groups. The groups that no region uses are those from a mark on, which were never used, and those of a list
-/// of freed ones below it.
+/// empty cells than there are groups.
 #[derive(Drop)]
 pub struct Octree<'a> {
     // N, as a number: a layer over a type that holds a `&mut` beside a `BoxSide`, which has a ghost field, gets no generated proof.
     edge: usize,
-    groups: &'a mut [Group],
+    store: Store<'a>,
     root: Child,
-    unused: Unused,
 }
 
 impl<'a> Octree<'a> {
@@ -41,16 +40,15 @@ impl<'a> Octree<'a> {
     pub fn new(side: BoxSide, groups: &'a mut [Group]) -> Octree<'a>
         ensures sound { Sound result }
         ensures edge { edge_of result ≡ cells_of side }
-        ensures loan { result.groups.ghost_name ≡ groups.entry.ghost_name }
+        ensures loan { result.store.groups.ghost_name ≡ groups.entry.ghost_name }
         ensures untouched { groups_of result ≡ groups.old }
         ensures blank { drawing_of result ≡ blank }
         ensures fits { fits_in result ≡ room (cells_of side) (length groups.old) }
     {
         Octree {
             edge: side.cells(),
-            groups,
+            store: Store::new(groups),
             root: Child::Empty,
-            unused: Unused::all(),
         }
     }
 
@@ -61,7 +59,7 @@ impl<'a> Octree<'a> {
         ensures { result ≡ drawing_of self.now (number (edge_of self.now) x y z) }
     {
         look(
-            self.groups,
+            &self.store,
             self.root,
             level_of(self.edge),
             Cell { x, y, z },
@@ -80,8 +78,8 @@ impl<'a> Octree<'a> {
             y,
             z,
         };
-        let change = plan(self.groups, self.root, level_of(self.edge), run);
-        self.unused.cover(self.groups, change)
+        let change = plan(&self.store, self.root, level_of(self.edge), run);
+        self.store.cover(change)
     }
 
     /// Changes the cells from `l` up to, and without, `r` of the row (y, z).
@@ -101,11 +99,7 @@ impl<'a> Octree<'a> {
             y,
             z,
         };
-        let level = level_of(self.edge);
-        let root = self.root;
-        let mut unused = self.unused;
-        self.root = turn(self.groups, &mut unused, root, level, run);
-        self.unused = unused;
+        self.root = turn(&mut self.store, self.root, level_of(self.edge), run);
     }
 }
 
@@ -127,7 +121,7 @@ impl<'a> Block for Octree<'a> {
 
     ghost blank_fits = { λ o. blank_fits (edge_of o) (length (groups_of o)) };
 
-    ghost present_fits = { λ o h. shown_fits (edge_of o) (groups_of o) o.root o.unused h };
+    ghost present_fits = { λ o h. shown_fits (edge_of o) o.store o.root h };
 
     ghost within = { λ o _. shown_within (edge_of o) (groups_of o) o.root };
 

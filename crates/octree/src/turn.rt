@@ -3,20 +3,14 @@
 ghost use Rattle.octree.specs.Trees.{solid_at};
 ghost use Rattle.octree.specs.OnTheWay.{Moved, Ready, flipped};
 
-use crate::cells::{Child, Group, Run, Unused};
-use crate::store::settle;
+use crate::cells::{Child, Run};
+use crate::store::Store;
 use crate::tree::in_order;
 
 /// Changes a run of cells in a region, and answers what the region is then. At no time are more groups in use than before or after.
-pub(crate) fn turn(
-    groups: &mut [Group],
-    unused: &mut Unused,
-    region: Child,
-    level: usize,
-    run: Run,
-) -> Child
-    requires { Ready groups.old unused.old level region run }
-    ensures { Moved groups.old unused.old level region (flipped run (solid_at groups.old level region)) groups.new unused.new result }
+pub(crate) fn turn(store: &mut Store<'_>, region: Child, level: usize, run: Run) -> Child
+    requires { Ready store.old level region run }
+    ensures { Moved store.old level region (flipped run (solid_at store.old.groups.now level region)) store.new result }
 {
     if run.from >= run.to {
         return region;
@@ -24,15 +18,9 @@ pub(crate) fn turn(
     if level == 0 {
         return region.turned_over();
     }
-    let mut children = region.children(groups);
-    let (first, second) = in_order(groups, children, level, run);
-    children[first.child] = turn(groups, unused, children[first.child], level - 1, first.run);
-    children[second.child] = turn(
-        groups,
-        unused,
-        children[second.child],
-        level - 1,
-        second.run,
-    );
-    settle(groups, unused, region, children)
+    let mut children = region.children(store);
+    let (first, second) = in_order(store, children, level, run);
+    children[first.child] = turn(store, children[first.child], level - 1, first.run);
+    children[second.child] = turn(store, children[second.child], level - 1, second.run);
+    store.settle(region, children)
 }

@@ -4,12 +4,14 @@ use Rattle.octree.specs.Regions.{room}
 use Rattle.octree.proofs.Wholes.{fresh_blank, fresh_whole}
 use Rattle.octree.proofs.Octree.new.Goals as goal
 
-pub returns : goal.returns
-returns c = record {
-  sound = fresh_whole c.cells.result c.args.groups.now c.all.result (subst (λ n. is_side n ≡ true) (sym c.cells.ensures) c.args.side.is_one) c.all.ensures.0 c.all.ensures.1;
-  edge = c.cells.ensures;
-  loan = refl;
-  untouched = refl;
-  blank = fresh_blank c.cells.result c.args.groups.now;
-  fits = ap (λ n. room n (length c.args.groups.now)) c.cells.ensures;
-}
+pub returns-clause-sound : goal.returns-clause-sound
+returns-clause-sound c = fresh_whole c.cells.result c.new.result (subst (λ n. is_side n ≡ true) (sym c.cells.ensures) c.args.side.is_one) c.new.ensures.mark c.new.ensures.freed c.new.ensures.last
+
+pub returns-clause-blank : goal.returns-clause-blank
+returns-clause-blank c = fresh_blank c.cells.result c.new.result.groups.now
+
+pub returns-clause-fits : goal.returns-clause-fits
+returns-clause-fits c =
+    let e = c.cells.ensures in
+    let u = c.new.ensures.untouched in
+    cc

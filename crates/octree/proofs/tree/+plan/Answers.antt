@@ -6,16 +6,16 @@ use Rattle.octree.proofs.Planning.{plan_none, plan_step, part_lies_in}
 use Rattle.octree.proofs.tree.+plan.Goals as goal
 
 pub returns-then-run : goal.returns-then-run
-returns-then-run t c = plan_none c.args.groups.now c.args.level c.args.region c.args.run c.kind.result c.requires.readable.tight c.if-run.true c.kind.ensures
+returns-then-run t c = plan_none c.args.store.now.groups.now c.args.level c.args.region c.args.run c.kind.result c.requires.readable.tight c.if-run.true c.kind.ensures
 
 pub children-children-requires : goal.children-children-requires
-children-children-requires t c = readable_there c.args.groups.now c.args.level c.args.region c.requires.readable
+children-children-requires t c = readable_there c.args.store.now.groups.now c.args.level c.args.region c.requires.readable
 
 pub plan-lower-requires : goal.plan-lower-requires
 plan-lower-requires t c = (
   omega arith,
   (
-    readable_part c.args.groups.now (c.args.level - 1) c.args.level c.args.region c.children-children.result (omega arith) c.children-children.ensures c.requires.readable c.halves.result.0.child c.halves.ensures.within.0,
+    readable_part c.args.store.now.groups.now (c.args.level - 1) c.args.level c.args.region c.children-children.result (omega arith) c.children-children.ensures c.requires.readable c.halves.result.0.child c.halves.ensures.within.0,
     part_lies_in (c.args.level - 1) c.args.level c.args.run _ c.halves.result.0 (omega arith) c.halves.ensures.parts.0 c.requires.lies,
   ),
 )
@@ -24,7 +24,7 @@ pub plan-higher-requires : goal.plan-higher-requires
 plan-higher-requires t c = (
   omega arith,
   (
-    readable_part c.args.groups.now (c.args.level - 1) c.args.level c.args.region c.children-children.result (omega arith) c.children-children.ensures c.requires.readable c.halves.result.1.child c.halves.ensures.within.1,
+    readable_part c.args.store.now.groups.now (c.args.level - 1) c.args.level c.args.region c.children-children.result (omega arith) c.children-children.ensures c.requires.readable c.halves.result.1.child c.halves.ensures.within.1,
     part_lies_in (c.args.level - 1) c.args.level c.args.run _ c.halves.result.1 (omega arith) c.halves.ensures.parts.1 c.requires.lies,
   ),
 )
@@ -44,5 +44,5 @@ overflow_add-result-4 t c = omega (arith, width_low (c.args.level - 1) (omega ar
 pub returns : goal.returns
 returns t c =
     let e : length c.kinds-kinds.result ≡ 8 = search rules in
-    plan_step c.args.groups.now (c.args.level - 1) c.args.level c.args.region c.args.run c.halves.result.0 c.halves.result.1 c.children-children.result c.plan-lower.result c.plan-higher.result c.kinds-kinds.result c.blended-kind.result c.groups.result c.groups-2.result
+    plan_step c.args.store.now.groups.now (c.args.level - 1) c.args.level c.args.region c.args.run c.halves.result.0 c.halves.result.1 c.children-children.result c.plan-lower.result c.plan-higher.result c.kinds-kinds.result c.blended-kind.result c.groups.result c.groups-2.result
     (omega arith) c.requires.readable.tight c.halves.ensures.parts c.children-children.ensures e c.kinds-kinds.ensures c.plan-lower.ensures c.plan-higher.ensures c.blended-kind.ensures (c.groups.ensures.0 ∙ ap wants c.kind-2.ensures) c.groups-2.ensures.0

@@ -23,12 +23,12 @@ overflow_add-higher c = omega (arith, width_low (c.args.level - 1) (omega arith)
 
 pub returns-then-lower-higher : goal.returns-then-lower-higher
 returns-then-lower-higher c = record {
-  order = low_first c.args.groups.now (c.args.level - 1) c.args.children c.args.run c.halves.result.0 c.halves.result.1 c.plan-lower.result c.plan-higher.result c.halves.ensures.parts c.plan-lower.ensures c.plan-higher.ensures c.if-lower-higher.true;
+  order = low_first c.args.store.now.groups.now (c.args.level - 1) c.args.children c.args.run c.halves.result.0 c.halves.result.1 c.plan-lower.result c.plan-higher.result c.halves.ensures.parts c.plan-lower.ensures c.plan-higher.ensures c.if-lower-higher.true;
   within = c.halves.ensures.within;
 }
 
 pub returns-else-lower-higher : goal.returns-else-lower-higher
 returns-else-lower-higher c = record {
-  order = high_first c.args.groups.now (c.args.level - 1) c.args.children c.args.run c.halves.result.0 c.halves.result.1 c.plan-lower.result c.plan-higher.result c.halves.ensures.parts c.plan-lower.ensures c.plan-higher.ensures c.if-lower-higher.false;
+  order = high_first c.args.store.now.groups.now (c.args.level - 1) c.args.children c.args.run c.halves.result.0 c.halves.result.1 c.plan-lower.result c.plan-higher.result c.halves.ensures.parts c.plan-lower.ensures c.plan-higher.ensures c.if-lower-higher.false;
   within = (c.halves.ensures.within.1, c.halves.ensures.within.0);
 }
