@@ -22,9 +22,6 @@ use Rattle.octree.proofs.NeedLaws.{Agree, need_agree}
 pub box_width : (n : ℕ) → is_side n ≡ true → width (level_of n) ≡ n
 box_width = by_side (λ n. width (level_of n) ≡ n) refl refl refl refl refl refl
 
-pub box_low : (n : ℕ) → is_side n ≡ true → level_of n ≤ 6
-box_low = by_side (λ n. level_of n ≤ 6) (lit≤ tt) (lit≤ tt) (lit≤ tt) (lit≤ tt) (lit≤ tt) (lit≤ tt)
-
 box_some : (n : ℕ) → is_side n ≡ true → 0 < n
 box_some = by_side (λ n. 0 < n) (lit< tt) (lit< tt) (lit< tt) (lit< tt) (lit< tt) (lit< tt)
 

@@ -35,7 +35,6 @@ readable_there gs n (Split g) h = ⊎_elim (λ l. l) (λ l. absurd (omega (arith
 
 pub readable_child : (gs : List Group) (n : ℕ) (r : Child) → Readable gs (suc n) r → (k : ℕ) → k < 8 → Readable gs n (child_at gs r k)
 readable_child gs n r h k l = record {
-  low = omega (arith, h.low);
   tight = tight_child gs n r h.tight k l;
   there = λ i p. omega (arith, h.there i p, uses_child gs n r i k l);
 }

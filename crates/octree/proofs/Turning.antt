@@ -22,7 +22,6 @@ use Rattle.octree.proofs.Steps.{count8, uses8, Family, part_once, part_few, new_
 -- what can be changed can be read
 pub ready_readable : (st : Store) (n : ℕ) (r : Child) (w : Run) → Ready st n r w → Readable st.groups.now n r
 ready_readable st n r w R = record {
-  low = R.low;
   tight = R.tight;
   there = λ i l. omega (arith, R.apart i, one_le st.mark i (omega (arith, R.counted.marked, l)));
 }
@@ -123,7 +122,6 @@ module _ (st : Store) (n : ℕ) (r : Child) (w : Run) (s v : Part) (cs : List Ch
 
   pub first_ready : Ready st n (get_or cs s.child Empty) s.run
   first_ready = record {
-    low = omega (arith, R.low);
     tight = family.tight s.child T.first_in;
     apart = part_once st n r cs family s.child T.first_in;
     few = part_few st n r cs family s.child T.first_in;
@@ -147,7 +145,6 @@ module _ (st : Store) (n : ℕ) (r : Child) (w : Run) (s v : Part) (cs : List Ch
 
     pub second_ready : Ready st₁ n (get_or (set cs s.child r₁) v.child Empty) v.run
     second_ready = record {
-      low = omega (arith, R.low);
       tight = family₁.tight v.child T.second_in;
       apart = part_once st₁ n r (set cs s.child r₁) family₁ v.child T.second_in;
       few = part_few st₁ n r (set cs s.child r₁) family₁ v.child T.second_in;

@@ -22,7 +22,7 @@ use Rattle.octree.proofs.NeedLaws.{most, need_most}
 use Rattle.octree.proofs.Trees.{leaf_uses, leaf_count}
 use Rattle.octree.proofs.Reading.{empty_dark}
 use Rattle.octree.proofs.Stock.{one_le}
-use Rattle.octree.proofs.Boxes.{box_low, box_width, shown_cell, shown_need, changed_need, changed_shown}
+use Rattle.octree.proofs.Boxes.{box_width, shown_cell, shown_need, changed_need, changed_shown}
 
 -- a drawing never needs more groups than can be named
 few_needed : (n : ℕ) → is_side n ≡ true → most (level_of n) ≤ 37449
@@ -37,7 +37,6 @@ module _ (n : ℕ) (st : Store) (r : Child) (W : Whole n st r) where
 
   pub whole_readable : Readable gs (level_of n) r
   whole_readable = record {
-    low = box_low n W.a_side;
     tight = whole_tight;
     there = λ i l. omega (arith, W.once i, one_le st.mark i (omega (arith, W.counted.marked, l)));
   }
@@ -63,7 +62,6 @@ module _ (n : ℕ) (st : Store) (r : Child) (W : Whole n st r) where
     pub whole_ready : room n (length gs) after ≡ true → Ready st (level_of n) r w
     unfolding room
     whole_ready f = record {
-      low = box_low n W.a_side;
       tight = whole_tight;
       apart = λ i. omega (arith, W.once i);
       few = omega (arith, W.count, W.counted.marked);

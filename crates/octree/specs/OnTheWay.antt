@@ -107,7 +107,6 @@ There gs (Split g) = g.index < length gs
 
 -- a region that can be read
 pub record Readable (gs : List Group) (n : ℕ) (r : Child) : Type 0 where
-  pub low : n ≤ 6
   pub tight : Tight gs n r
   pub there : (i : ℕ) → length gs ≤ i → uses gs n r i ≡ 0
 
@@ -163,7 +162,6 @@ pub record Settled (s : Store) (r : Child) (cs : List Child) (s' : Store) (r' : 
 
 -- a region in which a run can be changed: no group is in it twice, or in it and unused, and the unused ones suffice
 pub record Ready (s : Store) (n : ℕ) (r : Child) (w : Run) : Type 0 where
-  pub low : n ≤ 6
   pub tight : Tight s.groups.now n r
   pub apart : (i : ℕ) → uses s.groups.now n r i + idle s i ≤ 1
   pub few : group_count s.groups.now n r + left s ≤ capacity s.groups.now

@@ -20,7 +20,7 @@ mod turn;
 
 pub use cells::Group;
 use cells::{Cell, Child, Run};
-use region::{level_of, side_of};
+use region::{Level, side_of};
 use store::Store;
 use tree::{look, plan};
 use turn::turn;
@@ -61,7 +61,7 @@ impl<'a> Octree<'a> {
         look(
             &self.store,
             self.root,
-            level_of(self.edge),
+            Level::of_box(self.edge),
             Cell { x, y, z },
         )
     }
@@ -78,7 +78,7 @@ impl<'a> Octree<'a> {
             y,
             z,
         };
-        let change = plan(&self.store, self.root, level_of(self.edge), run);
+        let change = plan(&self.store, self.root, Level::of_box(self.edge), run);
         self.store.cover(change)
     }
 
@@ -99,7 +99,7 @@ impl<'a> Octree<'a> {
             y,
             z,
         };
-        self.root = turn(&mut self.store, self.root, level_of(self.edge), run);
+        self.root = turn(&mut self.store, self.root, Level::of_box(self.edge), run);
     }
 }
 

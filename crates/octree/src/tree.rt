@@ -1,13 +1,13 @@
 //! What a region holds, by its groups: its children, its cells, and what changing a run would do to it.
 
-ghost use Rattle.std.specs.Prelude.{◌≡◌, ℕ, ◌+◌, ◌-◌, ◌<◌, ◌≤◌, slice_index_or};
+ghost use Rattle.std.specs.Prelude.{◌≡◌, ℕ, suc, ◌<◌, ◌≤◌, slice_index_or};
 ghost use Rattle.octree.specs.declared.cells.Child.TheVariants.{Empty};
 ghost use Rattle.octree.specs.declared.cells.Kind.TheVariants.{AllEmpty};
 ghost use Rattle.octree.specs.Trees.{children_of, solid_at};
 ghost use Rattle.octree.specs.OnTheWay.{Lies, Ordered, Planned, Readable, There, blend, both, kind_of, turned_over, wants};
 
 use crate::cells::{Cell, Change, Child, Kind, Part, Run};
-use crate::region::{child_of, halves, inner, width_of};
+use crate::region::{Level, child_of, halves, inner};
 use crate::store::Store;
 
 impl Kind {
@@ -15,16 +15,13 @@ impl Kind {
     fn both(self, other: Kind) -> Kind
         ensures { result ≡ both self other }
     {
-        match (self, other) {
-            (Kind::AllEmpty, Kind::AllEmpty) => Kind::AllEmpty,
-            (Kind::AllSolid, Kind::AllSolid) => Kind::AllSolid,
-            _ => Kind::Mixed,
-        }
+        if self == other { self } else { Kind::Mixed }
     }
 
     /// How many groups a region of this kind has for itself.
     fn groups(self) -> usize
-        ensures { (result ≡ wants self) × (result ≤ 1) }
+        ensures wants { result ≡ wants self }
+        ensures most { result ≤ 1 }
     {
         match self {
             Kind::AllEmpty | Kind::AllSolid => 0,
@@ -84,27 +81,28 @@ pub(crate) fn blended(kinds: [Kind; 8]) -> Kind
 }
 
 /// Whether a cell of a region is solid.
-pub(crate) fn look(store: &Store<'_>, region: Child, level: usize, cell: Cell) -> bool
-    requires { Readable store.now.groups.now level region }
-    ensures { result ≡ solid_at store.now.groups.now level region cell }
+pub(crate) fn look(store: &Store<'_>, region: Child, level: Level, cell: Cell) -> bool
+    requires { Readable store.now.groups.now level.number region }
+    ensures { result ≡ solid_at store.now.groups.now level.number region cell }
 {
     match region {
         Child::Empty => false,
         Child::Solid => true,
         Child::Split(_) => {
             let children = region.children(store);
-            let half = width_of(level - 1);
+            let below = level.below();
+            let half = below.width();
             let child = child_of(half, cell);
-            look(store, children[child], level - 1, inner(half, child, cell))
+            look(store, children[child], below, inner(half, child, cell))
         }
     }
 }
 
 /// What changing a run would do to a region.
-pub(crate) fn plan(store: &Store<'_>, region: Child, level: usize, run: Run) -> Change
-    requires readable { Readable store.now.groups.now level region }
-    requires lies { Lies level run }
-    ensures { Planned store.now.groups.now level region run result }
+pub(crate) fn plan(store: &Store<'_>, region: Child, level: Level, run: Run) -> Change
+    requires readable { Readable store.now.groups.now level.number region }
+    requires lies { Lies level.number run }
+    ensures { Planned store.now.groups.now level.number region run result }
 {
     if run.from >= run.to {
         return Change {
@@ -113,7 +111,7 @@ pub(crate) fn plan(store: &Store<'_>, region: Child, level: usize, run: Run) -> 
             after: 0,
         };
     }
-    if level == 0 {
+    if level.is_cell() {
         return Change {
             kind: region.turned_over().kind(),
             before: 0,
@@ -121,9 +119,10 @@ pub(crate) fn plan(store: &Store<'_>, region: Child, level: usize, run: Run) -> 
         };
     }
     let children = region.children(store);
-    let (low, high) = halves(level, run);
-    let lower = plan(store, children[low.child], level - 1, low.run);
-    let higher = plan(store, children[high.child], level - 1, high.run);
+    let below = level.below();
+    let (low, high) = halves(below, run);
+    let lower = plan(store, children[low.child], below, low.run);
+    let higher = plan(store, children[high.child], below, high.run);
     let mut kinds = kinds(children);
     kinds[low.child] = lower.kind;
     kinds[high.child] = higher.kind;
@@ -136,22 +135,21 @@ pub(crate) fn plan(store: &Store<'_>, region: Child, level: usize, run: Run) -> 
 }
 
 /// The two parts of a run in the children of a region, in the order in which to change them: that whose need grows less comes first, so
-/// that the groups which it frees are there for the other.
+/// that the groups which it frees are there for the other. The level is that of the children.
 pub(crate) fn in_order(
     store: &Store<'_>,
     children: [Child; 8],
-    level: usize,
+    level: Level,
     run: Run,
 ) -> (Part, Part)
-    requires level { (1 ≤ level) × (level ≤ 6) }
-    requires readable { (k : ℕ) → k < 8 → Readable store.now.groups.now (level - 1) (slice_index_or children k Empty) }
-    requires lies { Lies level run }
-    ensures order { Ordered store.now.groups.now (level - 1) children run result.0 result.1 }
+    requires readable { (k : ℕ) → k < 8 → Readable store.now.groups.now level.number (slice_index_or children k Empty) }
+    requires lies { Lies (suc level.number) run }
+    ensures order { Ordered store.now.groups.now level.number children run result.0 result.1 }
     ensures within { (result.0.child < 8) × (result.1.child < 8) }
 {
     let (low, high) = halves(level, run);
-    let lower = plan(store, children[low.child], level - 1, low.run);
-    let higher = plan(store, children[high.child], level - 1, high.run);
+    let lower = plan(store, children[low.child], level, low.run);
+    let higher = plan(store, children[high.child], level, high.run);
     if lower.after + higher.before <= higher.after + lower.before {
         (low, high)
     } else {
