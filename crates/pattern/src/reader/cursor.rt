@@ -74,7 +74,7 @@ impl<'a> Reader<'a> {
                 let Some(n) = word.number() else {
                     return Err(Refusal::BadNumber { line: at });
                 };
-                let Ok(side) = BoxSide::new(n) else {
+                let Ok(side) = BoxSide::try_from(n) else {
                     return Err(Refusal::OddSide { line: Some(at) });
                 };
                 self.side = Some(side);
