@@ -1,12 +1,12 @@
 -- Changing a run: first the one part, then the other, then the region.
 use Rattle.std.proofs.Common.{◌≡◌, ℕ, suc, ◌+◌, ◌<◌, ◌≤◌, Bool, cond, not, List, length, get_or, set, sym, refl, ap, ◌∙◌, subst, ⊎_elim, arith}
 use Rattle.std.proofs.lemmas.Bool.{cases_eq}
-use Rattle.octree.specs.declared.cells.Cell.{Cell}
+use Rattle.block.specs.declared.cells.Cell.{Cell}
 use Rattle.octree.specs.declared.cells.Child.{Child}
 use Rattle.octree.specs.declared.cells.Child.TheVariants.{Empty}
 use Rattle.octree.specs.declared.cells.Group.{Group}
 use Rattle.octree.specs.declared.cells.Part.{Part}
-use Rattle.octree.specs.declared.cells.Run.{Run}
+use Rattle.block.specs.declared.cells.Run.{Run}
 use Rattle.octree.specs.declared.store.Store.{Store}
 use Rattle.octree.specs.Regions.{width, origin, start_of, mixed, need_of}
 use Rattle.octree.specs.Trees.{children_of, child_at, which_child, minus, solid_at, has_group, has, group_count, uses}

@@ -1,5 +1,7 @@
 -- What an octree means as a block.
 use Rattle.std.specs.Prelude.{◌≡◌, ℕ, Bool, List, length}
+use Rattle.refusals.specs.BoxSides.{cells_of}
+use Rattle.block.specs.Keeps.{Keeps}
 use Rattle.octree.specs.declared.Octree.{Octree}
 use Rattle.octree.specs.declared.cells.Group.{Group}
 use Rattle.octree.specs.Regions.{room}
@@ -7,7 +9,7 @@ use Rattle.octree.specs.Trees.{shown, Whole}
 
 -- how many cells it has along each axis
 abbrev pub edge_of : Octree → ℕ
-edge_of o = o.edge
+edge_of o = cells_of o.side
 
 -- the groups that it is lent
 abbrev pub groups_of : Octree → List Group
@@ -28,3 +30,7 @@ Sound o = Whole (edge_of o) o.store o.root
 -- the second octree has the groups of the same loan
 abbrev pub Tied : Octree → Octree → Type 0
 Tied o p = p.store.groups.ghost_name ≡ o.store.groups.ghost_name
+
+-- what every call keeps
+abbrev pub Kept : Octree → Octree → Type 0
+Kept = Keeps Sound Tied edge_of fits_in

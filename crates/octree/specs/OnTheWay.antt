@@ -1,7 +1,7 @@
 -- Words of the code on the way: what the functions below the octree's own ask and promise. A reader of the public contracts needs none of
 -- them. Regions are seen from where they begin, so that each cell of a region of level n has places below width n.
 use Rattle.std.specs.Prelude.{◌≡◌, ℕ, ◌+◌, ◌-◌, ◌<◌, ◌≤◌, min, Bool, true, false, cond, not, ◌&&◌, ◌⊎◌, List, length, ◌==◌, nat_le, nat_lt, slice_index_or}
-use Rattle.octree.specs.declared.cells.Cell.{Cell}
+use Rattle.block.specs.declared.cells.Cell.{Cell}
 use Rattle.octree.specs.declared.cells.Change.{Change}
 use Rattle.octree.specs.declared.cells.Child.{Child}
 use Rattle.octree.specs.declared.cells.Child.TheVariants.{Empty, Solid, Split}
@@ -10,7 +10,7 @@ use Rattle.octree.specs.declared.cells.GroupId.{GroupId}
 use Rattle.octree.specs.declared.cells.Kind.{Kind}
 use Rattle.octree.specs.declared.cells.Kind.TheVariants.{AllEmpty, AllSolid, Mixed}
 use Rattle.octree.specs.declared.cells.Part.{Part}
-use Rattle.octree.specs.declared.cells.Run.{Run}
+use Rattle.block.specs.declared.cells.Run.{Run}
 use Rattle.octree.specs.declared.store.Store.{Store}
 use Rattle.octree.specs.Regions.{width, origin, start_of, all_are, need_of}
 use Rattle.octree.specs.Trees.{no_group, child_at, which_child, solid_at, one, has_group, has, group_count, uses, idle, capacity, Counted}
@@ -23,7 +23,7 @@ Inside h c = (c.x < h) × (c.y < h) × (c.z < h)
 
 -- the cell is one of the run's
 abbrev pub in_run : Run → Cell → Bool
-in_run w c = c.y == w.y && (c.z == w.z && (nat_le w.from c.x && nat_lt c.x w.to))
+in_run w c = c.y == w.y && (c.z == w.z && (nat_le w.start c.x && nat_lt c.x w.end))
 
 -- the drawing with the cells of a run changed
 abbrev pub flipped : Run → (Cell → Bool) → Cell → Bool
@@ -31,13 +31,13 @@ flipped w p c = cond (in_run w c) (not (p c)) (p c)
 
 -- the run lies in a region of level n
 pub record Lies (n : ℕ) (w : Run) : Type 0 where
-  pub short : w.to ≤ width n
+  pub short : w.end ≤ width n
   pub in_y : w.y < width n
   pub in_z : w.z < width n
 
 -- the part of a run in the child k, counted from where that begins
 abbrev pub run_in : ℕ → Run → ℕ → Run
-run_in h w k = record { from = w.from - (start_of h k).x; to = min (w.to - (start_of h k).x) h; y = w.y - (start_of h k).y; z = w.z - (start_of h k).z }
+run_in h w k = record { y = w.y - (start_of h k).y; z = w.z - (start_of h k).z; start = w.start - (start_of h k).x; end = min (w.end - (start_of h k).x) h }
 
 -- the child that the cell x of the run's row lies in
 abbrev pub row_child : ℕ → Run → ℕ → ℕ

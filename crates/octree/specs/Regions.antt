@@ -4,7 +4,7 @@
 -- box is a region, and so are its children, theirs, and so on down to the single cells, which are the regions of level 0.
 use Rattle.std.specs.Prelude.{ℕ, zero, suc, ◌+◌, ◌*◌, ◌/◌, ◌%◌, Bool, true, false, cond, not, ◌&&◌, ◌||◌, ◌==◌, nat_le}
 use Rattle.block.specs.Drawing.{number}
-use Rattle.octree.specs.declared.cells.Cell.{Cell}
+use Rattle.block.specs.declared.cells.Cell.{Cell}
 
 -- how many cells a region of level n has along each axis
 abbrev pub width : ℕ → ℕ

@@ -1,7 +1,6 @@
 -- A tree of regions in groups: which cells it shows, and which groups it uses.
 use Rattle.std.specs.Prelude.{◌≡◌, ℕ, zero, suc, ◌+◌, ◌-◌, ◌*◌, ◌/◌, ◌%◌, ◌≤◌, min, ⊤, Bool, true, false, cond, Option, Some, None, List, [], length, replicate, ◌==◌, nat_le, nat_lt, slice_index_or}
-use Rattle.refusals.specs.Sides.{is_side}
-use Rattle.octree.specs.declared.cells.Cell.{Cell}
+use Rattle.block.specs.declared.cells.Cell.{Cell}
 use Rattle.octree.specs.declared.cells.Child.{Child}
 use Rattle.octree.specs.declared.cells.Child.TheVariants.{Empty, Solid, Split}
 use Rattle.octree.specs.declared.cells.Group.{Group}
@@ -116,9 +115,8 @@ pub record Counted (s : Store) : Type 0 where
   pub below : s.freed ≤ s.mark
   pub listed : FreedList s.groups.now s.freed s.last
 
--- A tree for a box of one of the six sides: every group is in it once or unused once, and there are as many in it as its drawing needs.
+-- a tree for a box that has n cells along each axis: every group is in it once or unused once, and there are as many in it as its drawing needs.
 pub record Whole (n : ℕ) (s : Store) (r : Child) : Type 0 where
-  pub a_side : is_side n ≡ true
   pub exact : group_count s.groups.now (level_of n) r ≡ needed n (shown n s.groups.now r)
   pub once : (i : ℕ) → uses s.groups.now (level_of n) r i + idle s i ≡ 1
   pub count : group_count s.groups.now (level_of n) r + s.freed ≡ s.mark

@@ -3,6 +3,8 @@
 ghost use Rattle.std.specs.Prelude.{◌≡◌};
 ghost use Rattle.octree.specs.Trees.{group_of};
 
+use block::Run;
+
 /// The name of a group: its place in the lent memory.
 #[derive(Clone, Copy, Debug, PartialEq, Eq)]
 pub struct GroupId {
@@ -60,23 +62,6 @@ pub enum Kind {
     AllEmpty,
     AllSolid,
     Mixed,
-}
-
-/// A cell, by its places along the three axes, counted from where its region begins.
-#[derive(Clone, Copy, Debug, PartialEq, Eq)]
-pub struct Cell {
-    pub x: usize,
-    pub y: usize,
-    pub z: usize,
-}
-
-/// The cells from `from` up to, and without, `to` of the row (y, z) of a region.
-#[derive(Clone, Copy, Debug, PartialEq, Eq)]
-pub struct Run {
-    pub from: usize,
-    pub to: usize,
-    pub y: usize,
-    pub z: usize,
 }
 
 /// A child of a region, and the part of a run that lies in it, counted from where the child begins.

@@ -6,10 +6,10 @@ ghost use Rattle.std.specs.Prelude.{◌≡◌, true, length};
 ghost use Rattle.refusals.specs.BoxSides.{cells_of};
 ghost use Rattle.block.specs.Drawing.{blank, changed, in_box, in_row, number};
 ghost use Rattle.octree.specs.Laws.{blank_fits, shown_fits, shown_within, tied_on, tied_same};
-ghost use Rattle.octree.specs.Meaning.{Sound, Tied, drawing_of, edge_of, fits_in, groups_of};
+ghost use Rattle.octree.specs.Meaning.{Kept, Sound, Tied, drawing_of, edge_of, fits_in, groups_of};
 ghost use Rattle.octree.specs.Regions.{room};
 
-use block::{Block, is_in_box, is_in_row};
+use block::{Block, Cell, Run};
 use refusals::{BoxSide, Refusal};
 
 mod cells;
@@ -19,8 +19,8 @@ mod tree;
 mod turn;
 
 pub use cells::Group;
-use cells::{Cell, Child, Run};
-use region::{Level, side_of};
+use cells::Child;
+use region::Level;
 use store::Store;
 use tree::{look, plan};
 use turn::turn;
@@ -29,8 +29,7 @@ use turn::turn;
 /// empty cells than there are groups.
 #[derive(Drop)]
 pub struct Octree<'a> {
-    // N, as a number: a layer over a type that holds a `&mut` beside a `BoxSide`, which has a ghost field, gets no generated proof.
-    edge: usize,
+    side: BoxSide,
     store: Store<'a>,
     root: Child,
 }
@@ -46,60 +45,40 @@ impl<'a> Octree<'a> {
         ensures fits { fits_in result ≡ room (cells_of side) (length groups.old) }
     {
         Octree {
-            edge: side.cells(),
+            side,
             store: Store::new(groups),
             root: Child::Empty,
         }
     }
 
     /// Whether a cell of the box is solid.
-    fn is_solid(&self, x: usize, y: usize, z: usize) -> bool
+    fn is_solid(&self, cell: Cell) -> bool
         requires sound { Sound self.now }
-        requires inside { in_box (edge_of self.now) x y z ≡ true }
-        ensures { result ≡ drawing_of self.now (number (edge_of self.now) x y z) }
+        requires inside { in_box (edge_of self.now) cell.x cell.y cell.z ≡ true }
+        ensures { result ≡ drawing_of self.now (number (edge_of self.now) cell.x cell.y cell.z) }
     {
-        look(
-            &self.store,
-            self.root,
-            Level::of_box(self.edge),
-            Cell { x, y, z },
-        )
+        look(&self.store, self.root, Level::of_box(self.side), cell)
     }
 
-    /// Whether the drawing fits with the cells from `l` up to, and without, `r` of the row (y, z) changed.
-    fn takes(&self, y: usize, z: usize, l: usize, r: usize) -> bool
+    /// Whether the drawing fits with the cells of a run changed.
+    fn takes(&self, run: Run) -> bool
         requires sound { Sound self.now }
-        requires inside { in_row (edge_of self.now) y z l r ≡ true }
-        ensures { result ≡ fits_in self.now (changed (edge_of self.now) (drawing_of self.now) y z l r) }
+        requires inside { in_row (edge_of self.now) run ≡ true }
+        ensures { result ≡ fits_in self.now (changed (edge_of self.now) (drawing_of self.now) run) }
     {
-        let run = Run {
-            from: l,
-            to: r,
-            y,
-            z,
-        };
-        let change = plan(&self.store, self.root, Level::of_box(self.edge), run);
+        let change = plan(&self.store, self.root, Level::of_box(self.side), run);
         self.store.cover(change)
     }
 
-    /// Changes the cells from `l` up to, and without, `r` of the row (y, z).
-    fn change(&mut self, y: usize, z: usize, l: usize, r: usize)
+    /// Changes the cells of a run.
+    fn change(&mut self, run: Run)
         requires sound { Sound self.old }
-        requires inside { in_row (edge_of self.old) y z l r ≡ true }
-        requires fits { fits_in self.old (changed (edge_of self.old) (drawing_of self.old) y z l r) ≡ true }
-        ensures kept { Sound self.new }
-        ensures same_loans { Tied self.old self.new }
-        ensures same_side { edge_of self.new ≡ edge_of self.old }
-        ensures same_fits { fits_in self.new ≡ fits_in self.old }
-        ensures drawn { drawing_of self.new ≡ changed (edge_of self.old) (drawing_of self.old) y z l r }
+        requires inside { in_row (edge_of self.old) run ≡ true }
+        requires fits { fits_in self.old (changed (edge_of self.old) (drawing_of self.old) run) ≡ true }
+        ensures kept { Kept self.old self.new }
+        ensures drawn { drawing_of self.new ≡ changed (edge_of self.old) (drawing_of self.old) run }
     {
-        let run = Run {
-            from: l,
-            to: r,
-            y,
-            z,
-        };
-        self.root = turn(&mut self.store, self.root, Level::of_box(self.edge), run);
+        self.root = turn(&mut self.store, self.root, Level::of_box(self.side), run);
     }
 }
 
@@ -126,24 +105,24 @@ impl<'a> Block for Octree<'a> {
     ghost within = { λ o _. shown_within (edge_of o) (groups_of o) o.root };
 
     fn side(&self) -> BoxSide {
-        side_of(self.edge)
+        self.side
     }
 
-    fn look(&self, x: usize, y: usize, z: usize) -> Result<bool, Refusal> {
-        if !is_in_box(self.edge, x, y, z) {
+    fn look(&self, cell: Cell) -> Result<bool, Refusal> {
+        if !cell.is_in_box(self.side.cells()) {
             return Err(Refusal::OffBox);
         }
-        Ok(self.is_solid(x, y, z))
+        Ok(self.is_solid(cell))
     }
 
-    fn flip(&mut self, y: usize, z: usize, l: usize, r: usize) -> Result<(), Refusal> {
-        if !is_in_row(self.edge, y, z, l, r) {
+    fn flip(&mut self, run: Run) -> Result<(), Refusal> {
+        if !run.is_in_row(self.side.cells()) {
             return Err(Refusal::OffBox);
         }
-        if !self.takes(y, z, l, r) {
+        if !self.takes(run) {
             return Err(Refusal::NoSand);
         }
-        self.change(y, z, l, r);
+        self.change(run);
         Ok(())
     }
 }

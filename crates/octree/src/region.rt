@@ -1,25 +1,14 @@
 //! The regions of a box: how wide they are, where their children lie, and the runs in them.
 
-ghost use Rattle.std.specs.Prelude.{◌≡◌, suc, ◌*◌, ◌%◌, ◌<◌, ◌≤◌, ◌↔◌, true, IsTrue};
+ghost use Rattle.std.specs.Prelude.{◌≡◌, suc, ◌*◌, ◌%◌, ◌<◌, ◌≤◌, ◌↔◌, IsTrue};
 ghost use Rattle.refusals.specs.BoxSides.{cells_of};
-ghost use Rattle.refusals.specs.Sides.{is_side};
 ghost use Rattle.octree.specs.Regions.{level_of, start_of, width};
 ghost use Rattle.octree.specs.Trees.{minus, which_child};
 ghost use Rattle.octree.specs.OnTheWay.{Halves, part_at};
 
-use crate::cells::{Cell, Part, Run};
+use crate::cells::Part;
+use block::{Cell, Run};
 use refusals::BoxSide;
-
-/// The side of a box of n cells along each axis, where n is one of the six.
-pub(crate) fn side_of(n: usize) -> BoxSide
-    requires { is_side n ≡ true }
-    ensures { cells_of result ≡ n }
-{
-    match BoxSide::new(n as i32) {
-        Ok(side) => side,
-        Err(_) => unreachable(),
-    }
-}
 
 /// The level of a region: it has 2^number cells along each axis. That of a whole box is 6 at most, and that of a single cell is 0.
 #[derive(Clone, Copy)]
@@ -30,16 +19,16 @@ pub struct Level {
 
 impl Level {
     /// The level of a whole box.
-    pub(crate) fn of_box(n: usize) -> Level
-        ensures { result.number ≡ level_of n }
+    pub(crate) fn of_box(side: BoxSide) -> Level
+        ensures { result.number ≡ level_of (cells_of side) }
     {
-        let number = match n {
-            2 => 1,
-            4 => 2,
-            8 => 3,
-            16 => 4,
-            32 => 5,
-            _ => 6,
+        let number = match side {
+            BoxSide::Two => 1,
+            BoxSide::Four => 2,
+            BoxSide::Eight => 3,
+            BoxSide::Sixteen => 4,
+            BoxSide::ThirtyTwo => 5,
+            BoxSide::SixtyFour => 6,
         };
         Level { number }
     }
@@ -125,10 +114,10 @@ fn part_at(half: usize, run: Run, x: usize) -> Part
     Part {
         child,
         run: Run {
-            from: run.from.saturating_sub(start.x),
-            to: run.to.saturating_sub(start.x).min(half),
             y: run.y - start.y,
             z: run.z - start.z,
+            start: run.start.saturating_sub(start.x),
+            end: run.end.saturating_sub(start.x).min(half),
         },
     }
 }

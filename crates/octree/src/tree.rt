@@ -6,9 +6,10 @@ ghost use Rattle.octree.specs.declared.cells.Kind.TheVariants.{AllEmpty};
 ghost use Rattle.octree.specs.Trees.{children_of, solid_at};
 ghost use Rattle.octree.specs.OnTheWay.{Lies, Ordered, Planned, Readable, There, blend, both, kind_of, turned_over, wants};
 
-use crate::cells::{Cell, Change, Child, Kind, Part, Run};
+use crate::cells::{Change, Child, Kind, Part};
 use crate::region::{Level, child_of, halves, inner};
 use crate::store::Store;
+use block::{Cell, Run};
 
 impl Kind {
     /// What two regions hold together.
@@ -104,7 +105,7 @@ pub(crate) fn plan(store: &Store<'_>, region: Child, level: Level, run: Run) -> 
     requires lies { Lies level.number run }
     ensures { Planned store.now.groups.now level.number region run result }
 {
-    if run.from >= run.to {
+    if run.start >= run.end {
         return Change {
             kind: region.kind(),
             before: 0,
