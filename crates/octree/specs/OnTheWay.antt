@@ -1,6 +1,6 @@
 -- Words of the code on the way: what the functions below the octree's own ask and promise. A reader of the public contracts needs none of
 -- them. Regions are seen from where they begin, so that each cell of a region of level n has places below width n.
-use Rattle.std.specs.Prelude.{◌≡◌, ℕ, ◌+◌, ◌-◌, ◌<◌, ◌≤◌, min, Bool, true, false, cond, not, ◌&&◌, ◌⊎◌, List, length, ◌==◌, nat_le, nat_lt, slice_index_or}
+use Rattle.std.specs.Prelude.{◌≡◌, ℕ, ◌+◌, ◌-◌, ◌<◌, ◌≤◌, min, Bool, true, false, if◌then◌else◌, not, ◌&&◌, ◌⊎◌, List, length, ◌==◌, nat_le, nat_lt, slice_index_or}
 use Rattle.block.specs.declared.cells.Cell.{Cell}
 use Rattle.octree.specs.declared.cells.Change.{Change}
 use Rattle.octree.specs.declared.cells.Child.{Child}
@@ -27,7 +27,7 @@ in_run w c = c.y == w.y && (c.z == w.z && (nat_le w.start c.x && nat_lt c.x w.en
 
 -- the drawing with the cells of a run changed
 abbrev pub flipped : Run → (Cell → Bool) → Cell → Bool
-flipped w p c = cond (in_run w c) (not (p c)) (p c)
+flipped w p c = if in_run w c then not (p c) else p c
 
 -- the run lies in a region of level n
 pub record Lies (n : ℕ) (w : Run) : Type 0 where

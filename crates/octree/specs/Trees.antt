@@ -1,5 +1,5 @@
 -- A tree of regions in groups: which cells it shows, and which groups it uses.
-use Rattle.std.specs.Prelude.{◌≡◌, ℕ, zero, suc, ◌+◌, ◌-◌, ◌*◌, ◌/◌, ◌%◌, ◌≤◌, min, ⊤, Bool, true, false, cond, Option, Some, None, List, [], length, replicate, ◌==◌, nat_le, nat_lt, slice_index_or}
+use Rattle.std.specs.Prelude.{◌≡◌, ℕ, zero, suc, ◌+◌, ◌-◌, ◌*◌, ◌/◌, ◌%◌, ◌≤◌, min, ⊤, Bool, true, false, if◌then◌else◌, Option, Some, None, List, [], length, replicate, ◌==◌, nat_le, nat_lt, slice_index_or}
 use Rattle.block.specs.declared.cells.Cell.{Cell}
 use Rattle.octree.specs.declared.cells.Child.{Child}
 use Rattle.octree.specs.declared.cells.Child.TheVariants.{Empty, Solid, Split}
@@ -25,7 +25,7 @@ child_at gs r k = slice_index_or (children_of gs r) k Empty
 
 -- 1 in the upper half along an axis, else 0
 abbrev pub upper : ℕ → ℕ → ℕ
-upper h x = cond (nat_lt x h) 0 1
+upper h x = if nat_lt x h then 0 else 1
 
 -- the child that a cell lies in, of a region whose children have h cells along each axis
 abbrev pub which_child : ℕ → Cell → ℕ
@@ -51,12 +51,12 @@ cell_of n k = record { x = k % n; y = k / n % n; z = k / (n * n) }
 
 -- the drawing of the whole box, by cell number
 unfoldable pub shown : ℕ → List Group → Child → ℕ → Bool
-shown n gs r k = cond (nat_lt k (n * n * n)) (solid_at gs (level_of n) r (cell_of n k)) false
+shown n gs r k = if nat_lt k (n * n * n) then solid_at gs (level_of n) r (cell_of n k) else false
 
 -- ---- which groups it uses
 
 abbrev pub one : Bool → ℕ
-one b = cond b 1 0
+one b = if b then 1 else 0
 
 -- 1 where a region has a group, and 1 where that is the group i
 abbrev pub has_group : Child → ℕ

@@ -100,7 +100,7 @@ impl<'a> Block for Octree<'a> {
 
     ghost blank_fits = { λ o. blank_fits (edge_of o) (length (groups_of o)) };
 
-    ghost present_fits = { λ o h. shown_fits (edge_of o) o.store o.root h };
+    ghost present_fits = { λ o. shown_fits (edge_of o) o.store o.root };
 
     ghost within = { λ o _. shown_within (edge_of o) (groups_of o) o.root };
 
