@@ -3,7 +3,7 @@ use Rattle.std.proofs.Common.{◌≡◌, ℕ, suc, ◌+◌, ◌<◌, ◌≤◌, 
 use Rattle.std.proofs.lemmas.List.{get_or-set_same, get_or-set_other, length-set}
 use Rattle.std.proofs.lemmas.Bool.{cond-false, cases_eq}
 use Rattle.std.proofs.lemmas.Bool.Decides.{nat_tests}
-use Rattle.octree.specs.declared.cells.Cell.{Cell}
+use Rattle.block.specs.declared.cells.Cell.{Cell}
 use Rattle.octree.specs.declared.cells.Change.{Change}
 use Rattle.octree.specs.declared.cells.Child.{Child}
 use Rattle.octree.specs.declared.cells.Child.TheVariants.{Empty}
@@ -11,7 +11,7 @@ use Rattle.octree.specs.declared.cells.Group.{Group}
 use Rattle.octree.specs.declared.cells.Kind.{Kind}
 use Rattle.octree.specs.declared.cells.Kind.TheVariants.{AllEmpty, AllSolid, Mixed}
 use Rattle.octree.specs.declared.cells.Part.{Part}
-use Rattle.octree.specs.declared.cells.Run.{Run}
+use Rattle.block.specs.declared.cells.Run.{Run}
 use Rattle.octree.specs.Regions.{width, origin, plus, start_of, need_of}
 use Rattle.octree.specs.Trees.{children_of, child_at, solid_at}
 use Rattle.octree.specs.OnTheWay.{in_run, flipped, Lies, run_in, row_child, part_at, kind_of, blend, wants, Shows, Tight, Planned, Halves, Ordered}
@@ -39,13 +39,13 @@ module _ (n : ℕ) (w : Run) (p : Cell → Bool) (q : ℕ → Cell → Bool) (h 
 -- ---- plans
 
 -- a run with no cell
-run_empty : (w : Run) → w.to ≤ w.from → (c : Cell) → in_run w c ≡ false
+run_empty : (w : Run) → w.end ≤ w.start → (c : Cell) → in_run w c ≡ false
 run_empty w l c = grind (arith, nat_tests)
 
-pub flip_empty : (w : Run) (p : Cell → Bool) → w.to ≤ w.from → (c : Cell) → p c ≡ flipped w p c
+pub flip_empty : (w : Run) (p : Cell → Bool) → w.end ≤ w.start → (c : Cell) → p c ≡ flipped w p c
 flip_empty w p l c = sym (cond-false (in_run w c) (not (p c)) (p c) (run_empty w l c))
 
-pub plan_none : (gs : List Group) (n : ℕ) (r : Child) (w : Run) (k : Kind) → Tight gs n r → w.to ≤ w.from → k ≡ kind_of r → Planned gs n r w (record { kind = k; before = 0; after = 0 })
+pub plan_none : (gs : List Group) (n : ℕ) (r : Child) (w : Run) (k : Kind) → Tight gs n r → w.end ≤ w.start → k ≡ kind_of r → Planned gs n r w (record { kind = k; before = 0; after = 0 })
 plan_none gs n r w k t l e =
     let same : Agree n (solid_at gs n r) (flipped w (solid_at gs n r)) = λ c m. flip_empty w (solid_at gs n r) l c in
     record {

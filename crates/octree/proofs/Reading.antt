@@ -1,7 +1,7 @@
 -- What reading a region rests on.
 use Rattle.std.proofs.Common.{◌≡◌, ℕ, zero, suc, ◌<◌, ◌≤◌, Bool, true, false, List, length, get_or, sym, refl, ap, ◌∙◌, subst, ⊎_elim, arith}
 use Rattle.std.proofs.lemmas.Bool.{cases_lt}
-use Rattle.octree.specs.declared.cells.Cell.{Cell}
+use Rattle.block.specs.declared.cells.Cell.{Cell}
 use Rattle.octree.specs.declared.cells.Child.{Child}
 use Rattle.octree.specs.declared.cells.Child.TheVariants.{Empty, Solid, Split}
 use Rattle.octree.specs.declared.cells.Group.{Group}
@@ -35,7 +35,6 @@ readable_there gs n (Split g) h = ⊎_elim (λ l. l) (λ l. absurd (omega (arith
 
 pub readable_child : (gs : List Group) (n : ℕ) (r : Child) → Readable gs (suc n) r → (k : ℕ) → k < 8 → Readable gs n (child_at gs r k)
 readable_child gs n r h k l = record {
-  low = omega (arith, h.low);
   tight = tight_child gs n r h.tight k l;
   there = λ i p. omega (arith, h.there i p, uses_child gs n r i k l);
 }

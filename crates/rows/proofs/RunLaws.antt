@@ -223,8 +223,9 @@ told_first cells from r f =
     (first_told cells from r f, from_place n p r.end (n - r.end) (omega (arith, f.within)))
 
 -- those from the first cell on are all of them
-told_all : (cells : List Bool) → told_from cells 0 ≡ told_runs cells
+pub told_all : (cells : List Bool) → told_from cells 0 ≡ told_runs cells
 told_all cells = ap (runs (λ x. get_or cells x false) 0) (omega arith)
 
-pub told_longest : (cells : List Bool) → LongestRuns (length cells) (λ x. get_or cells x false) (told_from cells 0)
-told_longest cells = subst (LongestRuns (length cells) (λ x. get_or cells x false)) (sym (told_all cells)) (runs_longest (length cells) (λ x. get_or cells x false))
+-- and all of them are the longest runs
+pub told_longest : (cells : List Bool) (rs : List Span) → rs ≡ told_runs cells → LongestRuns (length cells) (λ x. get_or cells x false) rs
+told_longest cells rs e = subst (LongestRuns (length cells) (λ x. get_or cells x false)) (sym e) (runs_longest (length cells) (λ x. get_or cells x false))

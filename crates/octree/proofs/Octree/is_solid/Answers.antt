@@ -1,14 +1,11 @@
-use Rattle.std.proofs.Common.{sym, ap, ◌∙◌, subst}
-use Rattle.octree.specs.Trees.{solid_at}
-use Rattle.octree.specs.OnTheWay.{Readable}
-use Rattle.octree.proofs.Wholes.{whole_readable, look_shown}
+use Rattle.std.proofs.Common.{◌∙◌}
+use Rattle.refusals.proofs.SideLaws.{cells_of_one}
+use Rattle.octree.specs.Meaning.{edge_of}
+use Rattle.octree.proofs.Wholes.{whole_readable, whole_look}
 use Rattle.octree.proofs.Octree.is_solid.Goals as goal
 
 pub look-requires : goal.look-requires
-look-requires c = subst (λ n. Readable c.args.self.now.groups.now n c.args.self.now.root) (sym c.level_of.ensures.0) (whole_readable c.args.self.now.edge c.args.self.now.groups.now c.args.self.now.root c.args.self.now.unused c.requires.sound)
+look-requires c = whole_readable (edge_of c.args.self.now) (cells_of_one c.args.self.now.side) c.args.self.now.store c.args.self.now.root c.requires.sound c.of_box.result.number c.of_box.ensures
 
 pub returns : goal.returns
-returns c =
-    c.look.ensures
-    ∙ ap (λ n. solid_at c.args.self.now.groups.now n c.args.self.now.root (record { x = c.args.x; y = c.args.y; z = c.args.z })) c.level_of.ensures.0
-    ∙ look_shown c.args.self.now.edge c.args.self.now.groups.now c.args.self.now.root (record { x = c.args.x; y = c.args.y; z = c.args.z }) c.requires.sound.a_side c.requires.inside
+returns c = c.look.ensures ∙ whole_look (edge_of c.args.self.now) (cells_of_one c.args.self.now.side) c.args.self.now.store c.args.self.now.root c.requires.sound c.of_box.result.number c.of_box.ensures c.args.cell c.requires.inside
