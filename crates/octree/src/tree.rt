@@ -82,6 +82,7 @@ pub(crate) fn blended(kinds: [Kind; 8]) -> Kind
 }
 
 /// Whether a cell of a region is solid.
+#[tactic(auto, using(crate::proofs::Reading::readable_there, crate::proofs::Reading::readable_part, crate::proofs::Reading::split_above, crate::proofs::Reading::empty_dark, crate::proofs::Reading::solid_light))]
 pub(crate) fn look(store: &Store<'_>, region: Child, level: Level, cell: Cell) -> bool
     requires { Readable store.now.groups.now level.number region }
     ensures { result ≡ solid_at store.now.groups.now level.number region cell }
@@ -100,6 +101,7 @@ pub(crate) fn look(store: &Store<'_>, region: Child, level: Level, cell: Cell) -
 }
 
 /// What changing a run would do to a region.
+#[tactic(auto, using(crate::proofs::Places::width_low, crate::proofs::Reading::readable_there))]
 pub(crate) fn plan(store: &Store<'_>, region: Child, level: Level, run: Run) -> Change
     requires readable { Readable store.now.groups.now level.number region }
     requires lies { Lies level.number run }
@@ -137,6 +139,7 @@ pub(crate) fn plan(store: &Store<'_>, region: Child, level: Level, run: Run) -> 
 
 /// The two parts of a run in the children of a region, in the order in which to change them: that whose need grows less comes first, so
 /// that the groups which it frees are there for the other. The level is that of the children.
+#[tactic(auto, using(crate::proofs::Places::width_low, crate::proofs::Planning::part_lies_in))]
 pub(crate) fn in_order(
     store: &Store<'_>,
     children: [Child; 8],

@@ -8,9 +8,6 @@ use Rattle.octree.proofs.tree.+plan.Goals as goal
 pub returns-then-run : goal.returns-then-run
 returns-then-run t c = plan_none c.args.store.now.groups.now c.args.level.number c.args.region c.args.run c.kind.result c.requires.readable.tight c.if-run.true c.kind.ensures
 
-pub children-children-requires : goal.children-children-requires
-children-children-requires t c = readable_there c.args.store.now.groups.now c.args.level.number c.args.region c.requires.readable
-
 pub plan-lower-requires : goal.plan-lower-requires
 plan-lower-requires t c = (
   omega arith,
@@ -28,18 +25,6 @@ plan-higher-requires t c = (
     part_lies_in c.below-below.result.number c.args.level.number c.args.run _ c.halves.result.1 c.below-below.ensures c.halves.ensures.parts.1 c.requires.lies,
   ),
 )
-
-pub overflow_add-result : goal.overflow_add-result
-overflow_add-result t c = omega (arith, width_low c.below-below.result.number c.below-below.result.low, c.plan-lower.ensures.few_before, c.plan-higher.ensures.few_before)
-
-pub overflow_add-result-2 : goal.overflow_add-result-2
-overflow_add-result-2 t c = omega (arith, width_low c.below-below.result.number c.below-below.result.low, c.plan-lower.ensures.few_before, c.plan-higher.ensures.few_before)
-
-pub overflow_add-result-3 : goal.overflow_add-result-3
-overflow_add-result-3 t c = omega (arith, width_low c.below-below.result.number c.below-below.result.low, c.plan-lower.ensures.few_after, c.plan-higher.ensures.few_after)
-
-pub overflow_add-result-4 : goal.overflow_add-result-4
-overflow_add-result-4 t c = omega (arith, width_low c.below-below.result.number c.below-below.result.low, c.plan-lower.ensures.few_after, c.plan-higher.ensures.few_after)
 
 pub returns : goal.returns
 returns t c =
