@@ -4,15 +4,6 @@ use Rattle.octree.proofs.Reading.{readable_there, readable_part}
 use Rattle.octree.proofs.Turning.{ready_readable, first_ready, second_ready, settle_apart, settle_some, turned}
 use Rattle.octree.proofs.turn.+turn.Goals as goal
 
-pub children-children-requires : goal.children-children-requires
-children-children-requires t c = readable_there c.args.store.now.groups.now c.args.level.number c.args.region (ready_readable c.args.store.now c.args.level.number c.args.region c.args.run c.requires)
-
-pub in_order-requires : goal.in_order-requires
-in_order-requires t c = record {
-  readable = readable_part c.args.store.now.groups.now c.below-below.result.number c.args.level.number c.args.region c.children-children.result c.below-below.ensures c.children-children.ensures (ready_readable c.args.store.now c.args.level.number c.args.region c.args.run c.requires);
-  lies = subst (λ m. Lies m c.args.run) c.below-below.ensures c.requires.lies;
-}
-
 pub turn-requires : goal.turn-requires
 turn-requires t c = (
   omega arith,
