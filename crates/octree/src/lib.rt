@@ -18,8 +18,8 @@ mod store;
 mod tree;
 mod turn;
 
-pub use cells::Group;
 use cells::Child;
+pub use cells::Group;
 use region::Level;
 use store::Store;
 use tree::{look, plan};

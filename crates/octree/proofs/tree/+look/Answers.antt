@@ -1,7 +1,4 @@
-use Rattle.std.proofs.Common.{◌-◌, ◌≤◌, sym, ap, ◌∙◌, arith}
-use Rattle.octree.specs.declared.cells.Child.{Child}
-use Rattle.octree.specs.Trees.{has_group, solid_at}
-use Rattle.octree.proofs.Reading.{empty_dark, solid_light, split_above, readable_there, readable_part, look_step}
+use Rattle.octree.proofs.Reading.{look_step}
 use Rattle.octree.proofs.tree.+look.Goals as goal
 
 pub returns-in-Split : goal.returns-in-Split

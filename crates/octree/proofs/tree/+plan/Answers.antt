@@ -1,7 +1,6 @@
-use Rattle.std.proofs.Common.{◌≡◌, ◌-◌, length, ap, ◌∙◌, arith, rules}
+use Rattle.std.proofs.Common.{◌≡◌, length, ap, ◌∙◌, arith, rules}
 use Rattle.octree.specs.OnTheWay.{wants}
-use Rattle.octree.proofs.Places.{width_low}
-use Rattle.octree.proofs.Reading.{readable_there, readable_part}
+use Rattle.octree.proofs.Reading.{readable_part}
 use Rattle.octree.proofs.Planning.{plan_none, plan_step, part_lies_in}
 use Rattle.octree.proofs.tree.+plan.Goals as goal
 
@@ -12,7 +11,7 @@ pub plan-lower-requires : goal.plan-lower-requires
 plan-lower-requires t c = (
   omega arith,
   (
-    readable_part c.args.store.now.groups.now c.below-below.result.number c.args.level.number c.args.region c.children-children.result c.below-below.ensures c.children-children.ensures c.requires.readable c.halves.result.0.child c.halves.ensures.within.0,
+    readable_part c.args.store.now.groups.now c.below-below.result.number c.args.level.number c.args.region c.children-children.result c.below-below.ensures c.children-children.ensures c.requires.readable c.halves.result.0.child c.halves.ensures.lower,
     part_lies_in c.below-below.result.number c.args.level.number c.args.run _ c.halves.result.0 c.below-below.ensures c.halves.ensures.parts.0 c.requires.lies,
   ),
 )
@@ -21,7 +20,7 @@ pub plan-higher-requires : goal.plan-higher-requires
 plan-higher-requires t c = (
   omega arith,
   (
-    readable_part c.args.store.now.groups.now c.below-below.result.number c.args.level.number c.args.region c.children-children.result c.below-below.ensures c.children-children.ensures c.requires.readable c.halves.result.1.child c.halves.ensures.within.1,
+    readable_part c.args.store.now.groups.now c.below-below.result.number c.args.level.number c.args.region c.children-children.result c.below-below.ensures c.children-children.ensures c.requires.readable c.halves.result.1.child c.halves.ensures.higher,
     part_lies_in c.below-below.result.number c.args.level.number c.args.run _ c.halves.result.1 c.below-below.ensures c.halves.ensures.parts.1 c.requires.lies,
   ),
 )

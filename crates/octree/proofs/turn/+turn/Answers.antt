@@ -1,7 +1,5 @@
-use Rattle.std.proofs.Common.{subst, arith, rules}
-use Rattle.octree.specs.OnTheWay.{Lies}
-use Rattle.octree.proofs.Reading.{readable_there, readable_part}
-use Rattle.octree.proofs.Turning.{ready_readable, first_ready, second_ready, settle_apart, settle_some, turned}
+use Rattle.std.proofs.Common.{arith, rules}
+use Rattle.octree.proofs.Turning.{first_ready, second_ready, settle_apart, settle_some, turned}
 use Rattle.octree.proofs.turn.+turn.Goals as goal
 
 pub turn-requires : goal.turn-requires
