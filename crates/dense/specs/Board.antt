@@ -1,5 +1,5 @@
 -- What a dense board means.
-use Rattle.std.specs.Prelude.{◌≡◌, ℕ, ◌*◌, ⊤, Bool, List, length}
+use Rattle.std.specs.Prelude.{◌≡◌, ℕ, ◌*◌, ⊤, Bool, true, List, length}
 use Rattle.refusals.specs.BoxSides.{cells_of}
 use Rattle.block.specs.Keeps.{Keeps}
 use Rattle.dense.specs.declared.Dense.{Dense}
@@ -24,6 +24,10 @@ drawing_of b = shown (edge_of b) (bytes_of b)
 -- which drawings fit
 abbrev pub fits_in : Dense → (ℕ → Bool) → Bool
 fits_in b = room (edge_of b) (bytes_of b)
+
+-- every drawing fits
+abbrev pub HoldsAll : Dense → Type 0
+HoldsAll b = (d : ℕ → Bool) → fits_in b d ≡ true
 
 -- The second board has the side of the first and the same lent bytes, as many as before, and those that no cell lies in are as they were.
 pub record Tied (b c : Dense) : Type 0 where

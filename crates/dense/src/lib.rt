@@ -4,7 +4,7 @@
 ghost use Rattle.std.specs.Prelude.{◌≡◌, ◌↔◌, ℕ, ◌<◌, ◌≤◌, ⊤, Bool, true, false, IsTrue, is_ok, if◌then◌else◌};
 ghost use Rattle.refusals.specs.BoxSides.{cells_of};
 ghost use Rattle.block.specs.Drawing.{blank, number, refusal_of, turned};
-ghost use Rattle.dense.specs.Board.{Kept, Tied, bytes_of, drawing_of, edge_of, fits_in, volume_of};
+ghost use Rattle.dense.specs.Board.{HoldsAll, Kept, Tied, bytes_of, drawing_of, edge_of, fits_in, volume_of};
 ghost use Rattle.dense.specs.Cells.{BlankIn, enough, room, wiped};
 ghost use Rattle.dense.specs.Laws.{blank_fits, shown_fits, shown_within};
 ghost use Rattle.dense.specs.Ties.{tied_on, tied_same};
@@ -46,7 +46,7 @@ impl<'a> Dense<'a> {
     #[tactic(auto, using(crate::proofs::ShownLaws::enough_decides, crate::proofs::ShownLaws::short_decides))]
     pub fn has_room(&self) -> bool
         ensures bytes { result ≡ enough (edge_of self.now) (bytes_of self.now) }
-        ensures all { IsTrue result ↔ ((d : ℕ → Bool) → fits_in self.now d ≡ true) }
+        ensures all { IsTrue result ↔ HoldsAll self.now }
         ensures blank { result ≡ false → (d : ℕ → Bool) → IsTrue (fits_in self.now d) ↔ BlankIn (edge_of self.now) d }
     {
         is_enough(self.side, self.cells.len())

@@ -13,9 +13,23 @@ pub none_is : {A : Type 0} (b : Bool) (p : A) → None ≡ cond b (Some p) None 
 none_is true p e = let z : ◌≡◌ {A = ℕ} 0 1 = cc in absurd (omega arith)
 none_is false p e = refl
 
-and_false : (a b : Bool) → b ≡ false → (a && b) ≡ false
+pub and_false : (a b : Bool) → b ≡ false → (a && b) ≡ false
 and_false true b e = e
 and_false false b e = refl
+
+-- three parts were made, so all three checks were passed
+pub three_made : {A B : Type 0} (f g h : Bool) (a b c x y z : A) (make : A → A → A → B)
+    → Some x ≡ cond f (Some a) None → Some y ≡ cond g (Some b) None → Some z ≡ cond h (Some c) None
+    → Some (make x y z) ≡ cond (f && g && h) (Some (make a b c)) None
+three_made {A} {B} f g h a b c x y z make p q r =
+    let u = some_is f x a p in let v = some_is g y b q in let w = some_is h z c r in
+    whole f g h u.0 v.0 w.0 u.1 v.1 w.1
+  where
+    whole : (f g h : Bool) → f ≡ true → g ≡ true → h ≡ true → x ≡ a → y ≡ b → z ≡ c → Some (make x y z) ≡ cond (f && g && h) (Some (make a b c)) None
+    whole true true true i j k l m n = cc
+    whole false g h i j k l m n = cc
+    whole f false h i j k l m n = cc
+    whole f g false i j k l m n = cc
 
 module _ (t : Triangle) where
   abbrev made : Point → Point → Type 0

@@ -1,3 +1,4 @@
+pub mod Casts
 pub mod Bounds
 pub mod Signs
 pub mod Ranges

@@ -58,8 +58,12 @@ size_is a = by_lt_z a (pos 0) (λ h. down a h ∙ size_down a h) (λ h. up a h �
     up : (a : ℤ) → pos 0 ≤ℤ a → pos (nat_abs a) ≡ a
     up a h = omega (arith, ints)
 
-pub minus : (a : ℤ) → pos 0 -ℤ a ≡ negsuc 0 *ℤ a
-minus a = omega (arith, ints)
+-- a negative sign turns a number
+pub turned : (n v : ℤ) → n <ℤ pos 0 → sign n *ℤ v ≡ pos 0 -ℤ v
+turned n v h = rw (sign_down n h) (minus v)
+  where
+    minus : (v : ℤ) → negsuc 0 *ℤ v ≡ pos 0 -ℤ v
+    minus v = omega (arith, ints)
 
 -- ---- the least and the greatest of three
 
@@ -74,10 +78,3 @@ greatest_above a b c h = two (int_max a b) c ∙ ap (λ x. x || le_z h c) (two a
   where
     two : (a b : ℤ) → le_z h (int_max a b) ≡ (le_z h a || le_z h b)
     two a b = grind (arith, ints)
-
--- sizes are compared as the code has them
-pub close_is : (h : ℕ) (v n : ℤ) → leb (nat_abs v) (h * nat_abs n) ≡ le_z (size v) (pos h *ℤ size n)
-close_is h v n = there (nat_abs v) h (nat_abs n) ∙ ap (λ a. le_z a (pos h *ℤ pos (nat_abs n))) (size_is v) ∙ ap (λ b. le_z (size v) (pos h *ℤ b)) (size_is n)
-  where
-    there : (a h b : ℕ) → leb a (h * b) ≡ le_z (pos a) (pos h *ℤ pos b)
-    there a h b = grind (arith, ints)

@@ -86,12 +86,17 @@ size a = sign a *ℤ a
 abbrev pub within_side : (Point → ℤ) → (Point → ℤ) → ℤ → Point → Point → Point → Bool
 within_side a b n u v q = int_le (pos 0) (sign n *ℤ edge a b u v q)
 
--- the line through q along the third axis meets the closed triangle at most h from q; n is the normal's component along that axis
+-- the line through q along the third axis meets the closed triangle, which does not lie along it; n is the normal's component along that axis
+abbrev pub met : (Point → ℤ) → (Point → ℤ) → ℤ → Point → Triangle → Bool
+met a b n q t = not (is_zero n) && within_side a b n t.v0 t.v1 q && within_side a b n t.v1 t.v2 q && within_side a b n t.v2 t.v0 q
+
+-- it meets the triangle's plane at most h from q
+abbrev pub close : ℤ → ℤ → Point → Triangle → Bool
+close n h q t = int_le (size (plane q t)) (h *ℤ size n)
+
+-- it meets the closed triangle at most h from q
 abbrev pub near : (Point → ℤ) → (Point → ℤ) → ℤ → ℤ → Point → Triangle → Bool
-near a b n h q t =
-    not (is_zero n)
-    && within_side a b n t.v0 t.v1 q && within_side a b n t.v1 t.v2 q && within_side a b n t.v2 t.v0 q
-    && int_le (size (plane q t)) (h *ℤ size n)
+near a b n h q t = met a b n q t && close n h q t
 
 -- the triangle makes the cell thin
 unfoldable pub thin : ℤ → Point → Triangle → Bool
