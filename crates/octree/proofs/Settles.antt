@@ -31,13 +31,13 @@ blend_ext f g h =
 
 is_empty : (r : Child) → all_empty (kind_of r) ≡ true → r ≡ Empty
 is_empty Empty e = refl
-is_empty Solid e = let z : ◌≡◌ {A = ℕ} 0 1 = cc in absurd (omega arith)
-is_empty (Split g) e = let z : ◌≡◌ {A = ℕ} 0 1 = cc in absurd (omega arith)
+is_empty Solid e = absurd cc
+is_empty (Split g) e = absurd cc
 
 is_solid : (r : Child) → all_solid (kind_of r) ≡ true → r ≡ Solid
-is_solid Empty e = let z : ◌≡◌ {A = ℕ} 0 1 = cc in absurd (omega arith)
+is_solid Empty e = absurd cc
 is_solid Solid e = refl
-is_solid (Split g) e = let z : ◌≡◌ {A = ℕ} 0 1 = cc in absurd (omega arith)
+is_solid (Split g) e = absurd cc
 
 leaf_holds : (gs : List Group) (r : Child) (f : ℕ → Child) → has_group r ≡ 0 → kind_of r ≡ blend (λ k. kind_of (f k)) → (k : ℕ) → k < 8 → child_at gs r k ≡ f k
 leaf_holds gs Empty f z e k l = child_empty gs k ∙ sym (is_empty (f k) (all8_each (λ j. all_empty (kind_of (f j))) (sym (blend_empty (λ j. kind_of (f j))) ∙ sym (ap all_empty e)) k l))

@@ -70,7 +70,10 @@ ordered_two gs n r cs w s v m O = ⊎_elim (halves_two gs n r w s v m) (λ H. sw
 
 -- ---- one after the other
 
-module _ (st : Store) (n : ℕ) (r : Child) (w : Run) (s v : Part) (cs : List Child) (ec : cs ≡ children_of st.groups.now r) (len : length cs ≡ 8) (R : Ready st (suc n) r w) (O : Ordered st.groups.now n cs w s v) where
+module _ (st : Store) (lv n : ℕ) (r : Child) (w : Run) (s v : Part) (cs : List Child) (el : lv ≡ suc n) (ec : cs ≡ children_of st.groups.now r) (len : length cs ≡ 8) (here : Ready st lv r w) (O : Ordered st.groups.now n cs w s v) where
+  R : Ready st (suc n) r w
+  R = subst (λ m. Ready st m r w) el here
+
   abbrev gs : List Group
   gs = st.groups.now
 
@@ -198,8 +201,8 @@ module _ (st : Store) (n : ℕ) (r : Child) (w : Run) (s v : Part) (cs : List Ch
           let sums = sum8_ext (λ k. group_count gs₂ n (get_or ds k Empty)) (λ k. need_of n (new_at k) origin) (λ k l. family₂.tight k l ∙ need_agree n _ _ (all_new k l)) in
           omega (arith, shows_wants _ (suc n) D sh, need_split n D new_at (λ k l a m. refl), sums, total, count_is, R.fits)
 
-      pub turned : (st₃ : Store) (r₃ : Child) → Settled st₂ r (set (set cs s.child r₁) v.child r₂) st₃ r₃ → Moved st (suc n) r (flipped w (solid_at gs (suc n) r)) st₃ r₃
-      turned st₃ r₃ S =
+      moved : (st₃ : Store) (r₃ : Child) → Settled st₂ r (set (set cs s.child r₁) v.child r₂) st₃ r₃ → Moved st (suc n) r (flipped w (solid_at gs (suc n) r)) st₃ r₃
+      moved st₃ r₃ S =
           let ds : List Child = set (set cs s.child r₁) v.child r₂ in
           let uses₁ = step_uses st n r cs family s.child T.first_in _ st₁ r₁ M in
           let uses₂ = step_uses st₁ n r (set cs s.child r₁) family₁ v.child T.second_in _ st₂ r₂ N in
@@ -217,3 +220,6 @@ module _ (st : Store) (n : ℕ) (r : Child) (w : Run) (s v : Part) (cs : List Ch
                 ∙ step_kept st n r cs family s.child T.first_in _ st₁ r₁ M i (omega (arith, z, uses_is i));
             counted = S.counted;
           }
+
+      pub turned : (st₃ : Store) (r₃ : Child) → Settled st₂ r (set (set cs s.child r₁) v.child r₂) st₃ r₃ → Moved st lv r (flipped w (solid_at gs lv r)) st₃ r₃
+      turned st₃ r₃ S = subst (λ m. Moved st m r (flipped w (solid_at gs m r)) st₃ r₃) (sym el) (moved st₃ r₃ S)

@@ -125,7 +125,8 @@ fn part_at(half: usize, run: Run, x: usize) -> Part
 /// The two parts of a run in the children of a region: the lower one along x and the higher one. The level is that of the children.
 pub(crate) fn halves(level: Level, run: Run) -> (Part, Part)
     ensures parts { Halves (width level.number) run result.0 result.1 }
-    ensures within { (result.0.child < 8) × (result.1.child < 8) }
+    ensures lower { result.0.child < 8 }
+    ensures higher { result.1.child < 8 }
 {
     let half = level.width();
     (part_at(half, run, 0), part_at(half, run, half))

@@ -71,6 +71,7 @@ impl<'a> Store<'a> {
     }
 
     /// Takes an unused group: the one freed last, or else the first that was never used.
+    #[tactic(auto, using(crate::proofs::Stock::last_within, crate::proofs::Stock::taken_freed, crate::proofs::Stock::taken_fresh))]
     fn take(&mut self) -> GroupId
         requires apart { Apart self.old Empty }
         requires some { 0 < left self.old }
