@@ -11,7 +11,7 @@ use block::{Cell, Run};
 use refusals::BoxSide;
 
 /// The level of a region: it has 2^number cells along each axis. That of a whole box is 6 at most, and that of a single cell is 0.
-#[derive(Clone, Copy)]
+#[derive(Clone, Copy, Debug, PartialEq, Eq)]
 pub struct Level {
     number: usize,
     ghost low: { number ≤ 6 },
