@@ -63,7 +63,7 @@ pub(crate) fn child_of(half: usize, cell: Cell) -> usize
     ensures child { result ≡ which_child half cell }
     ensures below { result < 8 }
 {
-    (cell.x >= half) as usize + 2 * (cell.y >= half) as usize + 4 * (cell.z >= half) as usize
+    usize::from(cell.x >= half) + 2 * usize::from(cell.y >= half) + 4 * usize::from(cell.z >= half)
 }
 
 /// Where a half of an axis begins: the lower one for an even number, the upper one for an odd number.
