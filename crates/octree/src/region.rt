@@ -4,7 +4,7 @@ ghost use Rattle.std.specs.Prelude.{◌≡◌, suc, ◌*◌, ◌%◌, ◌<◌, �
 ghost use Rattle.refusals.specs.BoxSides.{cells_of};
 ghost use Rattle.octree.specs.Regions.{level_of, start_of, width};
 ghost use Rattle.octree.specs.Trees.{minus, which_child};
-ghost use Rattle.octree.specs.OnTheWay.{Halves, part_at};
+ghost use Rattle.octree.specs.OnTheWay.{Halves, IsPartAt};
 
 use crate::cells::Part;
 use block::{Cell, Run};
@@ -99,8 +99,7 @@ pub(crate) fn inner(half: usize, child: usize, cell: Cell) -> Cell
 
 /// The child that the cell `x` of a run's row lies in, with the part of the run in that child.
 fn part_at(half: usize, run: Run, x: usize) -> Part
-    ensures part { result ≡ part_at half run x }
-    ensures within { result.child < 8 }
+    ensures { IsPartAt half run x result }
 {
     let child = child_of(
         half,
@@ -124,9 +123,7 @@ fn part_at(half: usize, run: Run, x: usize) -> Part
 
 /// The two parts of a run in the children of a region: the lower one along x and the higher one. The level is that of the children.
 pub(crate) fn halves(level: Level, run: Run) -> (Part, Part)
-    ensures parts { Halves (width level.number) run result.0 result.1 }
-    ensures lower { result.0.child < 8 }
-    ensures higher { result.1.child < 8 }
+    ensures { Halves (width level.number) run result.0 result.1 }
 {
     let half = level.width();
     (part_at(half, run, 0), part_at(half, run, half))

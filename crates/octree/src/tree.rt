@@ -150,9 +150,7 @@ pub(crate) fn in_order(
 ) -> (Part, Part)
     requires readable { (k : ℕ) → k < 8 → Readable store.now.groups.now level.number (slice_index_or children k Empty) }
     requires lies { Lies (suc level.number) run }
-    ensures order { Ordered store.now.groups.now level.number children run result.0 result.1 }
-    ensures first { result.0.child < 8 }
-    ensures second { result.1.child < 8 }
+    ensures { Ordered store.now.groups.now level.number children run result.0 result.1 }
 {
     let (low, high) = halves(level, run);
     let lower = plan(store, children[low.child], level, low.run);
