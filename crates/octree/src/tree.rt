@@ -84,7 +84,7 @@ pub(crate) fn blended(kinds: [Kind; 8]) -> Kind
 
 /// Whether a cell of a region is solid.
 // `look`, `plan` and `turn` call themselves, the level falling, as the table in docs/DECISIONS.md names them.
-#[tactic(auto, using(crate::proofs::Reading::readable_there, crate::proofs::Reading::readable_part, crate::proofs::Reading::split_above, crate::proofs::Reading::empty_dark, crate::proofs::Reading::solid_light))]
+#[tactic(auto, using(crate::proofs::Reading::readable_there, crate::proofs::Reading::readable_part, crate::proofs::Reading::split_above, crate::proofs::Trees::leaf_shows))]
 pub(crate) fn look(store: &Store<'_>, region: Child, level: Level, cell: Cell) -> bool
     requires { Readable store.now.groups.now level.number region }
     ensures { result ≡ solid_at store.now.groups.now level.number region cell }
