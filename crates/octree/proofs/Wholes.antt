@@ -24,8 +24,7 @@ use Rattle.octree.specs.Regions.{level_of, origin, need_of, needed, room}
 use Rattle.octree.specs.Trees.{cell_of, solid_at, group_count, uses, shown, FreedList, freed_at, Whole}
 use Rattle.octree.specs.OnTheWay.{flipped, Lies, Tight, Readable, Planned, left, Ready, Moved}
 use Rattle.octree.proofs.NeedLaws.{most, need_most}
-use Rattle.octree.proofs.Trees.{leaf_uses, leaf_count}
-use Rattle.octree.proofs.Reading.{empty_dark}
+use Rattle.octree.proofs.Trees.{leaf_shows, leaf_uses, leaf_count}
 use Rattle.octree.proofs.Stock.{one_le}
 use Rattle.octree.proofs.Boxes.{box_width, shown_cell, shown_need, changed_need, changed_shown}
 
@@ -135,7 +134,7 @@ module _ (o : Octree) (W : Sound o) where
 
 pub fresh_blank : (n : ℕ) (gs : List Group) → shown n gs Empty ≡ blank
 unfolding shown
-fresh_blank n gs = fun_ext (λ k. cond_both (ltb k (n * n * n)) _ false (λ b. b ≡ false) (λ e. empty_dark gs (level_of n) (cell_of n k)) (λ e. refl))
+fresh_blank n gs = fun_ext (λ k. cond_both (ltb k (n * n * n)) _ false (λ b. b ≡ false) (λ e. leaf_shows gs (level_of n) Empty (cell_of n k) refl) (λ e. refl))
 
 pub fresh_whole : (b : BoxSide) (s : Store) → s.mark ≡ 0 → s.freed ≡ 0 → s.last ≡ None → Whole (cells_of b) s Empty
 unfolding needed

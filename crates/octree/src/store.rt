@@ -16,7 +16,7 @@ pub struct Store<'a> {
     groups: &'a mut [Group],
     /// No group from here on was ever used.
     mark: u32,
-    /// How many groups below the mark are free again.
+    /// How many groups below the mark are free again. It is kept so that it is told without going through their list.
     freed: u32,
     /// The group that was freed last, if any is free again. The first child of each names the one freed before it, if there is one.
     last: Option<GroupId>,
@@ -51,7 +51,7 @@ impl<'a> Store<'a> {
     fn capacity(&self) -> u32
         ensures { result ≡ capacity self.now.groups.now }
     {
-        self.groups.len().min(u32::MAX as usize) as u32
+        u32::try_from(self.groups.len()).unwrap_or(u32::MAX)
     }
 
     /// How many groups no region uses.

@@ -84,7 +84,7 @@ pub(crate) fn blended(kinds: [Kind; 8]) -> Kind
 
 /// Whether a cell of a region is solid.
 // `look`, `plan` and `turn` call themselves, the level falling, as the table in docs/DECISIONS.md names them.
-#[tactic(auto, using(crate::proofs::Reading::readable_there, crate::proofs::Reading::readable_part, crate::proofs::Reading::split_above, crate::proofs::Reading::empty_dark, crate::proofs::Reading::solid_light))]
+#[tactic(auto, using(crate::proofs::Reading::readable_there, crate::proofs::Reading::readable_part, crate::proofs::Reading::split_above, crate::proofs::Trees::leaf_shows))]
 pub(crate) fn look(store: &Store<'_>, region: Child, level: Level, cell: Cell) -> bool
     requires { Readable store.now.groups.now level.number region }
     ensures { result ≡ solid_at store.now.groups.now level.number region cell }
@@ -150,9 +150,7 @@ pub(crate) fn in_order(
 ) -> (Part, Part)
     requires readable { (k : ℕ) → k < 8 → Readable store.now.groups.now level.number (slice_index_or children k Empty) }
     requires lies { Lies (suc level.number) run }
-    ensures order { Ordered store.now.groups.now level.number children run result.0 result.1 }
-    ensures first { result.0.child < 8 }
-    ensures second { result.1.child < 8 }
+    ensures { Ordered store.now.groups.now level.number children run result.0 result.1 }
 {
     let (low, high) = halves(level, run);
     let lower = plan(store, children[low.child], level, low.run);

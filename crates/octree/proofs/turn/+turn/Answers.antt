@@ -5,25 +5,25 @@ use Rattle.octree.proofs.turn.+turn.Goals as goal
 pub turn-requires : goal.turn-requires
 turn-requires t c = (
   omega arith,
-  first_ready c.args.store.now c.args.level.number c.below-below.result.number c.args.region c.args.run c.in_order.result.0 c.in_order.result.1 c.children-children.result c.below-below.ensures c.children-children.ensures (search rules) c.requires c.in_order.ensures.order,
+  first_ready c.args.store.now c.args.level.number c.below-below.result.number c.args.region c.args.run c.in_order.result.0 c.in_order.result.1 c.children-children.result c.below-below.ensures c.children-children.ensures (search rules) c.requires c.in_order.ensures,
 )
 
 pub turn-requires-2 : goal.turn-requires-2
 turn-requires-2 t c = (
   omega arith,
-  second_ready c.args.store.now c.args.level.number c.below-below.result.number c.args.region c.args.run c.in_order.result.0 c.in_order.result.1 c.children-children.result c.below-below.ensures c.children-children.ensures (search rules) c.requires c.in_order.ensures.order
+  second_ready c.args.store.now c.args.level.number c.below-below.result.number c.args.region c.args.run c.in_order.result.0 c.in_order.result.1 c.children-children.result c.below-below.ensures c.children-children.ensures (search rules) c.requires c.in_order.ensures
       c.turn.new.store c.turn.result c.turn.ensures,
 )
 
 pub settle-requires : goal.settle-requires
 settle-requires t c = record {
-  apart = settle_apart c.args.store.now c.args.level.number c.below-below.result.number c.args.region c.args.run c.in_order.result.0 c.in_order.result.1 c.children-children.result c.below-below.ensures c.children-children.ensures (search rules) c.requires c.in_order.ensures.order
+  apart = settle_apart c.args.store.now c.args.level.number c.below-below.result.number c.args.region c.args.run c.in_order.result.0 c.in_order.result.1 c.children-children.result c.below-below.ensures c.children-children.ensures (search rules) c.requires c.in_order.ensures
       c.turn.new.store c.turn.result c.turn.ensures c.turn-2.new.store c.turn-2.result c.turn-2.ensures;
-  some = settle_some c.args.store.now c.args.level.number c.below-below.result.number c.args.region c.args.run c.in_order.result.0 c.in_order.result.1 c.children-children.result c.below-below.ensures c.children-children.ensures (search rules) c.requires c.in_order.ensures.order
+  some = settle_some c.args.store.now c.args.level.number c.below-below.result.number c.args.region c.args.run c.in_order.result.0 c.in_order.result.1 c.children-children.result c.below-below.ensures c.children-children.ensures (search rules) c.requires c.in_order.ensures
       c.turn.new.store c.turn.result c.turn.ensures c.turn-2.new.store c.turn-2.result c.turn-2.ensures;
 }
 
 pub returns : goal.returns
 returns t c =
-    turned c.args.store.now c.args.level.number c.below-below.result.number c.args.region c.args.run c.in_order.result.0 c.in_order.result.1 c.children-children.result c.below-below.ensures c.children-children.ensures (search rules) c.requires c.in_order.ensures.order
+    turned c.args.store.now c.args.level.number c.below-below.result.number c.args.region c.args.run c.in_order.result.0 c.in_order.result.1 c.children-children.result c.below-below.ensures c.children-children.ensures (search rules) c.requires c.in_order.ensures
     c.turn.new.store c.turn.result c.turn.ensures c.turn-2.new.store c.turn-2.result c.turn-2.ensures c.settle.new.self c.settle.result c.settle.ensures
