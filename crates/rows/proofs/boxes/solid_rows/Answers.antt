@@ -1,4 +1,4 @@
-use Rattle.std.proofs.Common.{◌≡◌, ◌+◌, List, Bool, sym, ◌∙◌, subst, arith}
+use Rattle.std.proofs.Common.{◌+◌, List, Bool, sym, ◌∙◌, subst, arith}
 use Rattle.std.proofs.lemmas.Grind.{common_steps}
 use Rattle.rows.specs.Rows.{RowsOf}
 use Rattle.rows.proofs.BoxLaws.{rows_more, rows_full}
