@@ -8,10 +8,10 @@ mod expect;
 #[cfg(test)]
 mod parts;
 #[cfg(test)]
-mod shapes;
-#[cfg(test)]
 mod sides;
 #[cfg(test)]
 mod sizes;
+#[cfg(test)]
+mod tetrahedra;
 #[cfg(test)]
 mod walls;
