@@ -1,7 +1,9 @@
 -- Drawings: which cells of a box of n × n × n cells are solid, by their numbers.
-use Rattle.std.specs.Prelude.{ℕ, ◌+◌, ◌*◌, Bool, false, cond, not, ◌&&◌, Some, None, Ok, Err, Option, Result, nat_le, nat_lt}
+use Rattle.std.specs.Prelude.{ℕ, ◌+◌, ◌*◌, Bool, false, not, ◌&&◌, if◌then◌else◌, Some, None, Ok, Err, Option, Result, nat_le, nat_lt}
 use Rattle.refusals.specs.declared.Refusal.{Refusal}
 use Rattle.refusals.specs.declared.Refusal.TheVariants.{OffBox, NoSand}
+use Rattle.block.specs.declared.cells.Cell.{Cell}
+use Rattle.block.specs.declared.cells.Run.{Run}
 
 -- the number of the cell (x, y, z)
 abbrev pub number : ℕ → ℕ → ℕ → ℕ → ℕ
@@ -13,27 +15,27 @@ blank k = false
 
 -- the drawing d with the cells from the number lo up to, and without, hi changed
 unfoldable pub turned : (ℕ → Bool) → ℕ → ℕ → ℕ → Bool
-turned d lo hi k = cond (nat_le lo k) (cond (nat_lt k hi) (not (d k)) (d k)) (d k)
+turned d lo hi k = if nat_le lo k then (if nat_lt k hi then not (d k) else d k) else d k
 
--- the drawing d with the cells l up to, and without, r of the row (y, z) changed
-abbrev pub changed : ℕ → (ℕ → Bool) → ℕ → ℕ → ℕ → ℕ → ℕ → Bool
-changed n d y z l r = turned d (number n l y z) (number n r y z)
+-- the drawing d with the cells of a run changed
+abbrev pub changed : ℕ → (ℕ → Bool) → Run → ℕ → Bool
+changed n d w = turned d (number n w.start w.y w.z) (number n w.end w.y w.z)
 
--- the cell lies in the box
+-- the cell (x, y, z) lies in the box
 abbrev pub in_box : ℕ → ℕ → ℕ → ℕ → Bool
 in_box n x y z = nat_lt x n && nat_lt y n && nat_lt z n
 
--- the row lies in the box, and l < r ≤ n
-abbrev pub in_row : ℕ → ℕ → ℕ → ℕ → ℕ → Bool
-in_row n y z l r = nat_lt y n && nat_lt z n && nat_lt l r && nat_le r n
+-- the row of the run lies in the box, and start < end ≤ n
+abbrev pub in_row : ℕ → Run → Bool
+in_row n w = nat_lt w.y n && nat_lt w.z n && nat_lt w.start w.end && nat_le w.end n
 
 -- what a look at a cell answers
-abbrev pub looked : ℕ → (ℕ → Bool) → ℕ → ℕ → ℕ → Result Bool Refusal
-looked n d x y z = cond (in_box n x y z) (Ok (d (number n x y z))) (Err OffBox)
+abbrev pub looked : ℕ → (ℕ → Bool) → Cell → Result Bool Refusal
+looked n d c = if in_box n c.x c.y c.z then Ok (d (number n c.x c.y c.z)) else Err OffBox
 
 -- why a flip is refused, if it is, where F tells what fits
-abbrev pub flip_refusal : ℕ → ((ℕ → Bool) → Bool) → (ℕ → Bool) → ℕ → ℕ → ℕ → ℕ → Option Refusal
-flip_refusal n F d y z l r = cond (in_row n y z l r) (cond (F (changed n d y z l r)) None (Some NoSand)) (Some OffBox)
+abbrev pub flip_refusal : ℕ → ((ℕ → Bool) → Bool) → (ℕ → Bool) → Run → Option Refusal
+flip_refusal n F d w = if in_row n w then (if F (changed n d w) then None else Some NoSand) else Some OffBox
 
 -- the refusal that a call answers, if it does
 abbrev pub refusal_of : {A : Type 0} → Result A Refusal → Option Refusal

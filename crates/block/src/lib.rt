@@ -5,12 +5,13 @@
 ghost use Rattle.std.specs.Prelude.{◌≡◌, ℕ, ◌*◌, ◌≤◌, Bool, true, false, is_ok, if◌then◌else◌};
 ghost use Rattle.refusals.specs.BoxSides.{cells_of};
 ghost use Rattle.block.specs.Drawing.{blank, changed, flip_refusal, looked, refusal_of};
+ghost use Rattle.block.specs.Keeps.{Keeps};
 
 use refusals::{BoxSide, Refusal};
 
 pub mod cells;
 
-pub use cells::{is_in_box, is_in_row, number_in, run_in};
+pub use cells::{Cell, Run};
 
 /// A box of cells, each solid or empty.
 pub trait Block {
@@ -50,19 +51,15 @@ pub trait Block {
         ensures { cells_of result ≡ edge self.now };
 
     /// Whether a cell is solid, or refusal 1 where it lies outside the box.
-    fn look(&self, x: usize, y: usize, z: usize) -> Result<bool, Refusal>
+    fn look(&self, cell: Cell) -> Result<bool, Refusal>
         requires { sound self.now }
-        ensures { result ≡ looked (edge self.now) (drawing self.now) x y z };
+        ensures { result ≡ looked (edge self.now) (drawing self.now) cell };
 
-    /// Changes the cells from `l` up to, and without, `r` of the row (y, z): the empty ones become solid, and the solid ones empty.
-    /// Refusal 1 where the row lies outside the box or l < r ≤ N does not hold, else 12 where the changed drawing does not fit; a refused
-    /// flip changes nothing.
-    fn flip(&mut self, y: usize, z: usize, l: usize, r: usize) -> Result<(), Refusal>
+    /// Changes the cells of a run: the empty ones become solid, and the solid ones empty. Refusal 1 where the row lies outside the box or
+    /// start < end ≤ N does not hold, else 12 where the changed drawing does not fit; a refused flip changes nothing.
+    fn flip(&mut self, run: Run) -> Result<(), Refusal>
         requires { sound self.old }
-        ensures kept { sound self.new }
-        ensures same_loans { ties self.old self.new }
-        ensures same_side { edge self.new ≡ edge self.old }
-        ensures same_fits { fits self.new ≡ fits self.old }
-        ensures refused { refusal_of result ≡ flip_refusal (edge self.old) (fits self.old) (drawing self.old) y z l r }
-        ensures drawn { drawing self.new ≡ (if is_ok result then changed (edge self.old) (drawing self.old) y z l r else drawing self.old) };
+        ensures kept { Keeps sound ties edge fits self.old self.new }
+        ensures refused { refusal_of result ≡ flip_refusal (edge self.old) (fits self.old) (drawing self.old) run }
+        ensures drawn { drawing self.new ≡ (if is_ok result then changed (edge self.old) (drawing self.old) run else drawing self.old) };
 }

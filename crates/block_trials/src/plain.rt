@@ -1,46 +1,47 @@
-//! A box of cells as a plain list of truth values, by cell number, and what its drawing needs in each kind of block.
+//! A box of cells as a plain list of truth values, by cell number, and what its drawing needs in each kind of block. All of it is written
+//! apart from the blocks, so that it tells where one of them differs.
 
-ghost use Rattle.std.specs.Prelude.{◌≡◌, ◌<◌, ◌≤◌, true};
+ghost use Rattle.std.specs.Prelude.{◌<◌, ◌≤◌};
+
+use block::{Cell, Run};
+use refusals::{BoxSide, Refusal};
+use std::alloc::{AllocError, Global};
+use std::fmt;
 
 /// A kind of block.
-#[derive(Clone, Copy)]
+#[derive(Clone, Copy, Debug, PartialEq, Eq)]
 pub enum Kind {
     Dense,
     Spans,
     Octree,
 }
 
-/// The cells from `l` up to, and without, `r` of the row (y, z), in the box or not.
-#[derive(Clone, Copy)]
-pub struct Run {
-    pub y: usize,
-    pub z: usize,
-    pub l: usize,
-    pub r: usize,
+impl fmt::Display for Kind {
+    fn fmt<W: fmt::Write>(&self, f: &mut fmt::Formatter<W>) -> fmt::Result {
+        f.write_str(match self {
+            Kind::Dense => "dense",
+            Kind::Spans => "spans",
+            Kind::Octree => "octree",
+        })
+    }
 }
 
-/// A cell, in the box or not.
-#[derive(Clone, Copy)]
-pub struct Cell {
-    pub x: usize,
-    pub y: usize,
-    pub z: usize,
+/// The cells of a box of `n` cells along each axis.
+#[derive(Drop)]
+pub struct Plain {
+    n: usize,
+    cells: Vec<bool>,
+    ghost some: { 0 < n },
+    ghost few: { n ≤ 64 },
 }
 
-/// Whether the run lies in a box of `n` cells along each axis.
-pub fn is_run(n: usize, run: Run) -> bool {
-    run.y < n && run.z < n && run.l < run.r && run.r <= n
-}
-
-/// Whether the cell lies in a box of `n` cells along each axis.
-pub fn is_cell(n: usize, cell: Cell) -> bool
-    ensures { result ≡ true → (cell.x < n) × (cell.y < n) × (cell.z < n) }
-{
-    cell.x < n && cell.y < n && cell.z < n
+/// Whether the cell is one of the run.
+fn is_met(run: Run, cell: Cell) -> bool {
+    cell.y == run.y && cell.z == run.z && run.start <= cell.x && cell.x < run.end
 }
 
 /// The cell with the number `k`.
-pub fn cell_of(n: usize, k: usize) -> Cell
+fn cell_of(n: usize, k: usize) -> Cell
     requires { 0 < n }
 {
     Cell {
@@ -50,89 +51,6 @@ pub fn cell_of(n: usize, k: usize) -> Cell
     }
 }
 
-/// Whether the cell is one of the run.
-fn is_met(run: Run, cell: Cell) -> bool {
-    cell.y == run.y && cell.z == run.z && run.l <= cell.x && cell.x < run.r
-}
-
-/// Changes the cells of the run.
-pub fn turn(n: usize, cells: &mut [bool], run: Run)
-    requires { 0 < n }
-{
-    for (k, solid) in cells.iter_mut().enumerate() {
-        if is_met(run, cell_of(n, k)) {
-            *solid = !*solid;
-        }
-    }
-}
-
-/// Whether the cell is solid.
-pub fn is_solid(n: usize, cells: &[bool], cell: Cell) -> bool
-    requires { n ≤ 64 }
-{
-    is_cell(n, cell) && cells.get(cell.x + n * cell.y + n * n * cell.z).copied() == Some(true)
-}
-
-/// How many bytes, change places or groups the drawing needs.
-pub fn need(kind: Kind, n: usize, cells: &[bool]) -> usize
-    requires { (0 < n) × (n ≤ 64) }
-{
-    match kind {
-        Kind::Dense => bytes(cells),
-        Kind::Spans => change_places(cells),
-        Kind::Octree => mixed_regions(n, cells),
-    }
-}
-
-/// A bit for each cell, or nothing where no cell is solid.
-fn bytes(cells: &[bool]) -> usize {
-    if cells.contains(&true) {
-        cells.len() / 8
-    } else {
-        0
-    }
-}
-
-/// How many cells differ from the cell before them; the cell before the first counts as empty.
-fn change_places(cells: &[bool]) -> usize {
-    let mut count = 0usize;
-    let mut before = false;
-    for solid in cells {
-        if *solid != before {
-            count += 1;
-        }
-        before = *solid;
-    }
-    count
-}
-
-/// How many regions of 2 cells or more along each axis have both solid and empty cells.
-fn mixed_regions(n: usize, cells: &[bool]) -> usize
-    requires { (0 < n) × (n ≤ 64) }
-{
-    let mut count = 0usize;
-    let mut width = 2;
-    while width <= n {
-        count = count.saturating_add(mixed_of_width(n, width, cells));
-        width *= 2;
-    }
-    count
-}
-
-/// How many regions of `width` cells along each axis have both solid and empty cells.
-fn mixed_of_width(n: usize, width: usize, cells: &[bool]) -> usize
-    requires { (0 < n) × ((n ≤ 64) × ((0 < width) × (width ≤ 64))) }
-{
-    let mut count = 0usize;
-    for k in 0..cells.len() {
-        let corner = cell_of(n, k);
-        if is_corner(width, corner) && is_mixed(n, width, corner, cells) {
-            count += 1;
-        }
-    }
-    count
-}
-
 /// Whether a region of `width` cells along each axis begins at the cell.
 fn is_corner(width: usize, cell: Cell) -> bool
     requires { 0 < width }
@@ -140,21 +58,128 @@ fn is_corner(width: usize, cell: Cell) -> bool
     cell.x % width == 0 && cell.y % width == 0 && cell.z % width == 0
 }
 
-/// Whether the region of `width` cells along each axis that begins at `corner` has both solid and empty cells.
-fn is_mixed(n: usize, width: usize, corner: Cell, cells: &[bool]) -> bool
-    requires { (n ≤ 64) × ((0 < width) × (width ≤ 64)) }
-{
-    let first = is_solid(n, cells, corner);
-    for k in 0..width * width * width {
-        let step = cell_of(width, k);
-        let cell = Cell {
-            x: corner.x.saturating_add(step.x),
-            y: corner.y.saturating_add(step.y),
-            z: corner.z.saturating_add(step.z),
-        };
-        if is_solid(n, cells, cell) != first {
-            return true;
+impl Plain {
+    /// A box with no cell solid.
+    pub fn new(heap: Global, side: BoxSide) -> Result<Plain, AllocError> {
+        let n = side.cells();
+        let cells = vec![in heap; false; n * n * n]?;
+        Ok(Plain { n, cells })
+    }
+
+    /// Whether the block has every cell as it is here.
+    pub fn is_same<B: block::Block>(&self, block: &B) -> bool
+        requires { B.sound block.now }
+    {
+        for (k, &solid) in self.cells.iter().enumerate() {
+            if block.look(cell_of(self.n, k)) != Ok(solid) {
+                return false;
+            }
+        }
+        true
+    }
+
+    /// What a look at the cell should answer.
+    pub fn look(&self, cell: Cell) -> Result<bool, Refusal> {
+        let n = self.n;
+        if cell.x >= n || cell.y >= n || cell.z >= n {
+            return Err(Refusal::OffBox);
+        }
+        Ok(self.cells.get(cell.x + n * cell.y + n * n * cell.z) == Some(&true))
+    }
+
+    /// What a flip of the run should answer, in a block of this kind with so much memory. The cells are changed if it is made.
+    pub fn flip(&mut self, kind: Kind, memory: usize, run: Run) -> Result<(), Refusal> {
+        let n = self.n;
+        if run.y >= n || run.z >= n || run.start >= run.end || run.end > n {
+            return Err(Refusal::OffBox);
+        }
+        self.turn(run);
+        if self.need(kind) > memory {
+            self.turn(run);
+            return Err(Refusal::NoSand);
+        }
+        Ok(())
+    }
+
+    /// Changes the cells of the run.
+    fn turn(&mut self, run: Run) {
+        let n = self.n;
+        for (k, solid) in self.cells.iter_mut().enumerate() {
+            if is_met(run, cell_of(n, k)) {
+                *solid = !*solid;
+            }
         }
     }
-    false
+
+    /// How many bytes, change places or groups the drawing needs.
+    fn need(&self, kind: Kind) -> usize {
+        match kind {
+            Kind::Dense => self.bytes(),
+            Kind::Spans => self.change_places(),
+            Kind::Octree => self.mixed_regions(),
+        }
+    }
+
+    /// A bit for each cell, or nothing where no cell is solid.
+    fn bytes(&self) -> usize {
+        if self.cells.contains(&true) {
+            self.cells.len() / 8
+        } else {
+            0
+        }
+    }
+
+    /// How many cells differ from the cell before them; the cell before the first counts as empty.
+    fn change_places(&self) -> usize {
+        let before = std::iter::once(&false).chain(self.cells.iter());
+        self.cells
+            .iter()
+            .zip(before)
+            .filter(|(solid, before)| solid != before)
+            .count()
+    }
+
+    /// How many regions of 2 cells or more along each axis have both solid and empty cells.
+    fn mixed_regions(&self) -> usize {
+        let mut count = 0usize;
+        for width in [2, 4, 8, 16, 32, 64] {
+            count = count.saturating_add(self.mixed_of_width(width));
+        }
+        count
+    }
+
+    /// How many regions of `width` cells along each axis have both solid and empty cells.
+    fn mixed_of_width(&self, width: usize) -> usize
+        requires { (0 < width) × (width ≤ 64) }
+    {
+        let mut count = 0usize;
+        if width <= self.n {
+            for k in 0..self.cells.len() {
+                let corner = cell_of(self.n, k);
+                if is_corner(width, corner) && self.is_mixed(width, corner) {
+                    count = count.saturating_add(1);
+                }
+            }
+        }
+        count
+    }
+
+    /// Whether the region of `width` cells along each axis that begins at `corner` has both solid and empty cells.
+    fn is_mixed(&self, width: usize, corner: Cell) -> bool
+        requires { (0 < width) × (width ≤ 64) }
+    {
+        let first = self.look(corner);
+        for k in 0..width * width * width {
+            let step = cell_of(width, k);
+            let cell = Cell {
+                x: corner.x.saturating_add(step.x),
+                y: corner.y.saturating_add(step.y),
+                z: corner.z.saturating_add(step.z),
+            };
+            if self.look(cell) != first {
+                return true;
+            }
+        }
+        false
+    }
 }

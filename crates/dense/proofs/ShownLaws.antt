@@ -11,6 +11,8 @@ use Rattle.block.proofs.Sides.{cube_some, cube_eights}
 use Rattle.block.proofs.Turns.{turned_high, turned_in}
 use Rattle.dense.specs.Cells.{BlankIn, bytes_for, cell_in, enough, shown, bare_below, room, wiped}
 use Rattle.dense.specs.Laws.{bare_decides, short_shown, shown_within}
+use Rattle.dense.specs.declared.Dense.{Dense}
+use Rattle.dense.specs.Board.{Kept, Tied, bytes_of, edge_of}
 use Rattle.dense.specs.Marks.{marked}
 use Rattle.dense.proofs.BitLaws.{cell_zero}
 
@@ -101,3 +103,12 @@ fits_turned n bs lo hi l h =
     (λ e. e ∙ sym (enough_fits n bs e _))
     (λ e. e ∙ sym (short_refuses n bs e (turned (shown n bs) lo hi) lo within (turned_in (shown n bs) lo hi lo here l ∙ ap not (short_shown n bs e lo))))
     (cases_Bool (enough n bs))
+
+-- a board over the same lent bytes keeps what a call has to keep
+pub tied_kept : (b c : Dense) → Tied b c → Kept b c
+tied_kept b c t = record {
+  still_sound = tt;
+  same_loans = t;
+  same_side = t.same_edge;
+  same_fits = ap (λ (n : ℕ). room n (bytes_of c)) t.same_edge ∙ room_same (edge_of b) (bytes_of b) (bytes_of c) t.same_length;
+}

@@ -1,5 +1,5 @@
 -- Cells in bytes, for a box of n × n × n cells: cell k is bit k mod 8, the lowest first, of byte k div 8.
-use Rattle.std.specs.Prelude.{◌≡◌, ℕ, zero, suc, ◌*◌, ◌/◌, ◌%◌, ◌^◌, ◌<◌, Bool, true, false, cond, not, ◌&&◌, ◌||◌, List, ◌++◌, length, drop, replicate, ◌==◌, bit_or, bit_xor, nat_le, nat_lt, slice_index, slice_set}
+use Rattle.std.specs.Prelude.{◌≡◌, ℕ, zero, suc, ◌*◌, ◌/◌, ◌%◌, ◌^◌, ◌<◌, Bool, true, false, if◌then◌else◌, not, ◌&&◌, ◌||◌, List, ◌++◌, length, drop, replicate, ◌==◌, bit_or, bit_xor, nat_le, nat_lt, slice_index, slice_set}
 
 -- bit j of a byte, the lowest being bit 0
 unfoldable pub bit : ℕ → ℕ → Bool
@@ -43,8 +43,8 @@ room n bs d = enough n bs || bare_below (n * n * n) d
 
 -- the bytes that no cell lies in: all of them where they are too few
 abbrev pub spare : ℕ → List ℕ → List ℕ
-spare n bs = cond (enough n bs) (drop (bytes_for n) bs) bs
+spare n bs = if enough n bs then drop (bytes_for n) bs else bs
 
 -- the bytes as a new board leaves them: 0 wherever cells lie, and the others as they were
 abbrev pub wiped : ℕ → List ℕ → List ℕ
-wiped n bs = cond (enough n bs) (replicate (bytes_for n) 0 ++ drop (bytes_for n) bs) bs
+wiped n bs = if enough n bs then replicate (bytes_for n) 0 ++ drop (bytes_for n) bs else bs

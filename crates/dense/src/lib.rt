@@ -1,16 +1,17 @@
 //! The dense board: a block that keeps a bit for each cell, in bytes that it is lent.
 #![tactic(auto)]
 
-ghost use Rattle.std.specs.Prelude.{◌≡◌, ℕ, ◌<◌, ◌≤◌, Bool, true, false, is_ok, if◌then◌else◌, Decides};
+ghost use Rattle.std.specs.Prelude.{◌≡◌, ◌↔◌, ℕ, ◌<◌, ◌≤◌, ⊤, Bool, true, false, IsTrue, is_ok, if◌then◌else◌};
 ghost use Rattle.refusals.specs.BoxSides.{cells_of};
 ghost use Rattle.block.specs.Drawing.{blank, number, refusal_of, turned};
-ghost use Rattle.dense.specs.Board.{Sound, Tied, bytes_of, drawing_of, edge_of, fits_in, volume_of};
+ghost use Rattle.dense.specs.Board.{HoldsAll, Kept, Tied, bytes_of, drawing_of, edge_of, fits_in, volume_of};
 ghost use Rattle.dense.specs.Cells.{BlankIn, enough, room, wiped};
 ghost use Rattle.dense.specs.Laws.{blank_fits, shown_fits, shown_within};
 ghost use Rattle.dense.specs.Ties.{tied_on, tied_same};
 ghost use Rattle.dense.specs.Marks.{mark_refusal, marked};
 
-use block::{Block, number_in, run_in};
+use block::{Block, Cell, Run};
+use geometry::Span;
 use refusals::{BoxSide, Refusal};
 
 mod bits;
@@ -23,8 +24,7 @@ use places::is_enough;
 /// there are N × N × N / 8 bytes or more, else the blank drawing alone.
 #[derive(Drop)]
 pub struct Dense<'a> {
-    // N, as a number: a layer over a type that holds a `&mut` beside a `BoxSide`, which has a ghost field, gets no generated proof.
-    edge: usize,
+    side: BoxSide,
     cells: &'a mut [u8],
 }
 
@@ -32,44 +32,36 @@ impl<'a> Dense<'a> {
     /// A blank board. Where the bytes are enough, 0 is written into the first N × N × N / 8; where they are fewer, none is touched.
     #[tactic(auto, using(crate::proofs::ShownLaws::room_same, crate::proofs::ShownLaws::wiped_blank))]
     pub fn new(side: BoxSide, cells: &'a mut [u8]) -> Dense<'a>
-        ensures sound { Sound result }
         ensures edge { edge_of result ≡ cells_of side }
         ensures loan { result.cells.ghost_name ≡ cells.entry.ghost_name }
         ensures bytes { bytes_of result ≡ wiped (cells_of side) cells.old }
         ensures blank { drawing_of result ≡ blank }
         ensures fits { fits_in result ≡ room (cells_of side) cells.old }
     {
-        let edge = side.cells();
-        wipe(cells, edge);
-        Dense { edge, cells }
+        wipe(cells, side);
+        Dense { side, cells }
     }
 
     /// Whether all drawings fit; where they do not, just the drawings fit that are blank in the box.
     #[tactic(auto, using(crate::proofs::ShownLaws::enough_decides, crate::proofs::ShownLaws::short_decides))]
     pub fn has_room(&self) -> bool
-        requires { Sound self.now }
         ensures bytes { result ≡ enough (edge_of self.now) (bytes_of self.now) }
-        ensures all { Decides result ((d : ℕ → Bool) → fits_in self.now d ≡ true) }
-        ensures blank { result ≡ false → (d : ℕ → Bool) → Decides (fits_in self.now d) (BlankIn (edge_of self.now) d) }
+        ensures all { IsTrue result ↔ HoldsAll self.now }
+        ensures blank { result ≡ false → (d : ℕ → Bool) → IsTrue (fits_in self.now d) ↔ BlankIn (edge_of self.now) d }
     {
-        is_enough(self.edge, self.cells.len())
+        is_enough(self.side, self.cells.len())
     }
 
     /// Makes a cell solid, whatever it was. Refusal 1 where the cell lies outside the box, else 12 where the marked drawing does not fit;
     /// a refused mark changes nothing. The bytes that no cell lies in stay as they were.
-    pub fn mark(&mut self, x: usize, y: usize, z: usize) -> Result<(), Refusal>
-        requires { Sound self.old }
-        ensures kept { Sound self.new }
-        ensures same_loans { Tied self.old self.new }
-        ensures same_side { edge_of self.new ≡ edge_of self.old }
-        ensures same_fits { fits_in self.new ≡ fits_in self.old }
-        ensures refused { refusal_of result ≡ mark_refusal (edge_of self.old) (fits_in self.old) (drawing_of self.old) x y z }
-        ensures drawn { drawing_of self.new ≡ (if is_ok result then marked (drawing_of self.old) (number (edge_of self.old) x y z) else drawing_of self.old) }
+    #[tactic(auto, using(crate::proofs::ShownLaws::tied_kept))]
+    pub fn mark(&mut self, cell: Cell) -> Result<(), Refusal>
+        ensures kept { Kept self.old self.new }
+        ensures refused { refusal_of result ≡ mark_refusal (edge_of self.old) (fits_in self.old) (drawing_of self.old) cell }
+        ensures drawn { drawing_of self.new ≡ (if is_ok result then marked (drawing_of self.old) (number (edge_of self.old) cell.x cell.y cell.z) else drawing_of self.old) }
         ensures unchanged { is_ok result ≡ false → bytes_of self.new ≡ bytes_of self.old }
     {
-        let Some(k) = number_in(self.edge, x, y, z) else {
-            return Err(Refusal::OffBox);
-        };
+        let k = cell.number_in(self.side.cells()).ok_or(Refusal::OffBox)?;
         if !self.takes_mark(k) {
             return Err(Refusal::NoSand);
         }
@@ -77,59 +69,55 @@ impl<'a> Dense<'a> {
         Ok(())
     }
 
-    /// Whether cell `k` is solid.
-    #[tactic(auto, using(crate::specs::Laws::short_shown, crate::proofs::ShownLaws::shown_in))]
-    fn is_solid(&self, k: usize) -> bool
-        requires { (Sound self.now) × (k < volume_of self.now) }
-        ensures { result ≡ drawing_of self.now k }
-    {
-        self.has_room() && is_set(self.cells, k)
-    }
-
     /// Whether the drawing fits with cell `k` marked.
     #[tactic(auto, using(crate::proofs::ShownLaws::fits_marked))]
     fn takes_mark(&self, k: usize) -> bool
-        requires { (Sound self.now) × (k < volume_of self.now) }
+        requires { k < volume_of self.now }
         ensures fits { result ≡ fits_in self.now (marked (drawing_of self.now) k) }
         ensures bytes { result ≡ enough (edge_of self.now) (bytes_of self.now) }
     {
         self.has_room()
     }
 
-    /// Whether the drawing fits with the cells from `lo` up to, and without, `hi` changed.
+    /// Whether the drawing fits with the cells of a run changed, by their numbers.
     #[tactic(auto, using(crate::proofs::ShownLaws::fits_turned))]
-    fn takes_run(&self, lo: usize, hi: usize) -> bool
-        requires { (Sound self.now) × ((lo < hi) × (hi ≤ volume_of self.now)) }
-        ensures fits { result ≡ fits_in self.now (turned (drawing_of self.now) lo hi) }
+    fn takes_run(&self, run: Span) -> bool
+        requires { (run.start < run.end) × (run.end ≤ volume_of self.now) }
+        ensures fits { result ≡ fits_in self.now (turned (drawing_of self.now) run.start run.end) }
         ensures bytes { result ≡ enough (edge_of self.now) (bytes_of self.now) }
     {
         self.has_room()
     }
 
     /// Makes cell `k` solid.
-    #[tactic(auto, using(crate::proofs::BitLaws::cells_filled, crate::proofs::ShownLaws::room_same, crate::proofs::ShownLaws::shown_marked))]
+    #[tactic(auto, using(crate::proofs::BitLaws::cells_filled, crate::proofs::ShownLaws::shown_marked))]
     fn fill(&mut self, k: usize)
-        requires sound { Sound self.old }
         requires room { enough (edge_of self.old) (bytes_of self.old) ≡ true }
         requires within { k < volume_of self.old }
         ensures same_loans { Tied self.old self.new }
-        ensures same_fits { fits_in self.new ≡ fits_in self.old }
         ensures drawn { drawing_of self.new ≡ marked (drawing_of self.old) k }
     {
         fill_cell(self.cells, k);
     }
 
-    /// Changes the cells from `lo` up to, and without, `hi`.
-    #[tactic(auto, using(crate::proofs::ShownLaws::room_same, crate::proofs::ShownLaws::shown_turned))]
-    fn change(&mut self, lo: usize, hi: usize)
-        requires sound { Sound self.old }
+    /// Changes the cells of a run, by their numbers.
+    #[tactic(auto, using(crate::proofs::ShownLaws::shown_turned))]
+    fn change(&mut self, run: Span)
         requires room { enough (edge_of self.old) (bytes_of self.old) ≡ true }
-        requires within { (lo ≤ hi) × (hi ≤ volume_of self.old) }
+        requires within { (run.start ≤ run.end) × (run.end ≤ volume_of self.old) }
         ensures same_loans { Tied self.old self.new }
-        ensures same_fits { fits_in self.new ≡ fits_in self.old }
-        ensures drawn { drawing_of self.new ≡ turned (drawing_of self.old) lo hi }
+        ensures drawn { drawing_of self.new ≡ turned (drawing_of self.old) run.start run.end }
     {
-        turn_run(self.cells, lo, hi);
+        turn_run(self.cells, run);
+    }
+
+    /// Whether cell `k` is solid.
+    #[tactic(auto, using(crate::specs::Laws::short_shown, crate::proofs::ShownLaws::shown_in))]
+    fn is_solid(&self, k: usize) -> bool
+        requires { k < volume_of self.now }
+        ensures { result ≡ drawing_of self.now k }
+    {
+        self.has_room() && is_set(self.cells, k)
     }
 }
 
@@ -140,7 +128,8 @@ impl<'a> Block for Dense<'a> {
 
     ghost fits = { fits_in };
 
-    ghost sound = { Sound };
+    /// Nothing more: a board has one of the six sides by its type.
+    ghost sound = { λ _. ⊤ };
 
     /// The lent bytes are the same ones, and those that no cell lies in are as they were.
     ghost ties = { Tied };
@@ -156,28 +145,21 @@ impl<'a> Block for Dense<'a> {
     ghost within = { λ b _. shown_within (edge_of b) (bytes_of b) };
 
     fn side(&self) -> BoxSide {
-        // N came from a `BoxSide`.
-        match BoxSide::new(self.edge as i32) {
-            Ok(side) => side,
-            Err(_) => unreachable(),
-        }
+        self.side
     }
 
-    fn look(&self, x: usize, y: usize, z: usize) -> Result<bool, Refusal> {
-        match number_in(self.edge, x, y, z) {
-            Some(k) => Ok(self.is_solid(k)),
-            None => Err(Refusal::OffBox),
-        }
+    fn look(&self, cell: Cell) -> Result<bool, Refusal> {
+        let k = cell.number_in(self.side.cells()).ok_or(Refusal::OffBox)?;
+        Ok(self.is_solid(k))
     }
 
-    fn flip(&mut self, y: usize, z: usize, l: usize, r: usize) -> Result<(), Refusal> {
-        let Some((lo, hi)) = run_in(self.edge, y, z, l, r) else {
-            return Err(Refusal::OffBox);
-        };
-        if !self.takes_run(lo, hi) {
+    #[tactic(auto, using(crate::proofs::ShownLaws::tied_kept))]
+    fn flip(&mut self, run: Run) -> Result<(), Refusal> {
+        let numbers = run.numbers_in(self.side.cells()).ok_or(Refusal::OffBox)?;
+        if !self.takes_run(numbers) {
             return Err(Refusal::NoSand);
         }
-        self.change(lo, hi);
+        self.change(numbers);
         Ok(())
     }
 }

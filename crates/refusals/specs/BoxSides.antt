@@ -3,11 +3,17 @@ use Rattle.std.specs.Prelude.{◌≡◌, ℕ, Bool, false, ℤ, pos, negsuc, Non
 use Rattle.refusals.specs.declared.Refusal.{Refusal}
 use Rattle.refusals.specs.declared.Refusal.TheVariants.{OddSide}
 use Rattle.refusals.specs.declared.box_side.BoxSide.{BoxSide}
+use Rattle.refusals.specs.declared.box_side.BoxSide.TheVariants.{Two, Four, Eight, Sixteen, ThirtyTwo, SixtyFour}
 use Rattle.refusals.specs.Sides.{is_side}
 
 -- how many cells the side has
 abbrev pub cells_of : BoxSide → ℕ
-cells_of s = s.cells
+cells_of Two = 2
+cells_of Four = 4
+cells_of Eight = 8
+cells_of Sixteen = 16
+cells_of ThirtyTwo = 32
+cells_of SixtyFour = 64
 
 -- a whole number that is one of the six sides
 abbrev pub names_side : ℤ → Bool

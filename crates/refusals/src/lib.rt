@@ -11,7 +11,7 @@ pub mod box_side;
 pub use box_side::BoxSide;
 
 /// The part of the program that a refusal comes from.
-#[derive(Clone, Copy)]
+#[derive(Clone, Copy, Debug, PartialEq, Eq)]
 pub enum Layer {
     /// The reader of pattern text.
     Text,
@@ -25,7 +25,7 @@ pub enum Layer {
 
 /// Why a call did nothing. Each has a number and a word, the layer that it comes from, and the place that is at fault: the line of the
 /// text or the entry of the shape, counted from 1, else 0.
-#[derive(Clone, Copy)]
+#[derive(Clone, Copy, Debug, PartialEq, Eq)]
 pub enum Refusal {
     /// 1: a cell or a run lies outside the box.
     OffBox,

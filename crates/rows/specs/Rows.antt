@@ -1,6 +1,6 @@
 -- The rows of a list of triangles, and the runs of solid cells.
-use Rattle.std.specs.Prelude.{◌≡◌, ℕ, ◌<◌, ◌≤◌, Bool, true, false, List, [], ◌∷◌, map, length, take, Some, None, Option, slice_index_or}
-use Rattle.rows.specs.declared.Run.{Run}
+use Rattle.std.specs.Prelude.{◌≡◌, ℕ, ◌<◌, ◌≤◌, Bool, true, false, not, List, [], ◌∷◌, map, length, take, Some, None, Option, slice_index_or}
+use Rattle.geometry.specs.declared.facet.extent.Span.{Span}
 use Rattle.algebra.specs.Parity.{◌⊻◌}
 use Rattle.geometry.specs.declared.facet.Facet.{Facet}
 use Rattle.geometry.specs.Geometry.{inside}
@@ -28,11 +28,16 @@ pub record Longest (cells : List Bool) (from start end : ℕ) : Type 0 where
   pub behind : end < length cells → slice_index_or cells end false ≡ false
 
 -- the first run from a place on, or none where every cell from there on is empty
-abbrev pub FirstRun : List Bool → ℕ → Option Run → Type 0
+abbrev pub FirstRun : List Bool → ℕ → Option Span → Type 0
 FirstRun cells from None = AllAre cells false from (length cells)
 FirstRun cells from (Some r) = Longest cells from r.start r.end
 
 -- ---- words of the code on the way
+
+-- k is the first place from `from` on whose cell is v
+abbrev pub IsFirstPlace : List Bool → Bool → ℕ → ℕ → Type 0
+IsFirstPlace cells v from k =
+    (from ≤ k) × (k < length cells) × (slice_index_or cells k false ≡ v) × AllAre cells (not v) from k
 
 -- whether an odd number of the elements pass the test
 abbrev pub odd : {A : Type 0} → (A → Bool) → List A → Bool

@@ -1,14 +1,13 @@
 //! Points with faces that name them.
 
 ghost use Rattle.std.specs.Prelude.{◌≡◌};
-ghost use Rattle.shapes.specs.Named.{face_entry, named_entries, point_named};
+ghost use Rattle.shapes.specs.Named.{named_entries, point_named, triangle_named};
 
 use crate::Shape;
-use crate::entry::Entry;
 use geometry::{Face, Point, Triangle};
 
 /// A list of points, and faces that name three of them each, counted from 1. A face that names a missing point is a hole.
-#[derive(Clone, Copy)]
+#[derive(Clone, Copy, Debug, PartialEq, Eq)]
 pub struct FaceList<'a> {
     pub points: &'a [Point],
     pub faces: &'a [Face],
@@ -18,24 +17,18 @@ pub struct FaceList<'a> {
 fn point_named(points: &[Point], number: i32) -> Option<Point>
     ensures { result ≡ point_named points.now number }
 {
-    if number < 1 {
-        return None;
-    }
-    points.get((number - 1) as usize).copied()
+    let place = usize::try_from(number).ok()?.checked_sub(1)?;
+    points.get(place).copied()
 }
 
-/// The triangle that a face names, or a hole where it names a missing point.
-pub fn face_entry(points: &[Point], face: Face) -> Entry
-    ensures { result ≡ face_entry points.now face }
+/// The triangle that a face names, or none where it names a missing point.
+pub fn triangle_named(points: &[Point], face: Face) -> Option<Triangle>
+    ensures { result ≡ triangle_named points.now face }
 {
-    match (
-        point_named(points, face.a),
-        point_named(points, face.b),
-        point_named(points, face.c),
-    ) {
-        (Some(v0), Some(v1), Some(v2)) => Entry::Face(Triangle { v0, v1, v2 }),
-        _ => Entry::Hole,
-    }
+    let v0 = point_named(points, face.a)?;
+    let v1 = point_named(points, face.b)?;
+    let v2 = point_named(points, face.c)?;
+    Some(Triangle { v0, v1, v2 })
 }
 
 impl<'a> Shape for FaceList<'a> {
@@ -45,13 +38,7 @@ impl<'a> Shape for FaceList<'a> {
         self.faces.len()
     }
 
-    #[tactic(auto, using(crate::proofs::EntryLaws::entry_of, crate::proofs::EntryLaws::entry_past))]
-    fn entry(&self, i: usize) -> Entry {
-        let faces = self.faces;
-        if i < faces.len() {
-            face_entry(self.points, faces[i])
-        } else {
-            Entry::Hole
-        }
+    fn entry(&self, i: usize) -> Option<Triangle> {
+        triangle_named(self.points, *self.faces.get(i)?)
     }
 }

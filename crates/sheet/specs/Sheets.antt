@@ -1,5 +1,5 @@
 -- What a sheet means: the side of a box, and a list of lines.
-use Rattle.std.specs.Prelude.{◌≡◌, ℕ, ◌+◌, ◌<◌, List, [], ◌∷◌, ◌++◌, length, take, Ok, Err, Result}
+use Rattle.std.specs.Prelude.{◌≡◌, ℕ, ◌<◌, List, [], ◌∷◌, ◌++◌, length, take, sum_by, Ok, Err, Result}
 use Rattle.refusals.specs.declared.Refusal.{Refusal}
 use Rattle.refusals.specs.declared.Refusal.TheVariants.{FullSheet}
 use Rattle.refusals.specs.declared.box_side.BoxSide.{BoxSide}
@@ -18,8 +18,7 @@ line triangles flips = record { triangles = triangles; flips = flips }
 
 -- the triangles of all lines
 abbrev pub total : List Line → ℕ
-total [] = 0
-total (l ∷ ls) = l.triangles + total ls
+total ls = sum_by (λ l. l.triangles) ls
 
 -- adding a line to the sheet a leaves the sheet b: one line more, at the end, unless sixteen stand
 abbrev pub Added : {T : Type 0} → Sheet → ℕ → ℕ → Sheet → Result T Refusal → Type 0

@@ -2,6 +2,7 @@
 use Rattle.std.proofs.Common.{◌≡◌, ℕ, ◌*◌, ◌/◌, ◌%◌, Bool, true, false, ◌&&◌, ◌||◌, eqb, ◌⊎◌, None, sym, refl, ap, ◌∙◌, inl, inr, ⊎_elim}
 use Rattle.std.proofs.Math.Bool.{or-false, or-true}
 use Rattle.std.proofs.lemmas.Bool.{cases_eq, cond-true, eq-eqb, ne_eqb}
+use Rattle.block.specs.declared.cells.Cell.{Cell}
 use Rattle.block.specs.Drawing.{in_box, number}
 use Rattle.block.proofs.Numbers.{in_box_true}
 use Rattle.block.proofs.Rows.{number_x, number_y, number_z}
@@ -48,5 +49,5 @@ module _ (n x y z u v w : ℕ) (h : in_box n x y z ≡ true) (k : in_box n u v w
           none (inl p) (inl q) (inr r) = rw (eq-eqb u x p, eq-eqb v y q, ne_eqb w z r) refl
 
 -- a mark in the box is refused nowhere, where all drawings fit
-pub mark_taken : (n : ℕ) (F : (ℕ → Bool) → Bool) (d : ℕ → Bool) (x y z : ℕ) → in_box n x y z ≡ true → ((e : ℕ → Bool) → F e ≡ true) → mark_refusal n F d x y z ≡ None
-mark_taken n F d x y z h f = cond-true (in_box n x y z) _ _ h ∙ cond-true (F (marked d (number n x y z))) _ _ (f _)
+pub mark_taken : (n : ℕ) (F : (ℕ → Bool) → Bool) (d : ℕ → Bool) (c : Cell) → in_box n c.x c.y c.z ≡ true → ((e : ℕ → Bool) → F e ≡ true) → mark_refusal n F d c ≡ None
+mark_taken n F d c h f = cond-true (in_box n c.x c.y c.z) _ _ h ∙ cond-true (F (marked d (number n c.x c.y c.z))) _ _ (f _)

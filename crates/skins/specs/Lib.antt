@@ -1,1 +1,2 @@
 pub mod Skins
+pub mod Coats

@@ -9,7 +9,7 @@ use Rattle.geometry.specs.Read.{half}
 use Rattle.mesh.specs.Chains.{some}
 use Rattle.block.specs.Drawing.{in_box, number}
 use Rattle.dense.specs.declared.Dense.{Dense}
-use Rattle.dense.specs.Board.{Sound, Tied, bytes_of, drawing_of, edge_of, fits_in}
+use Rattle.dense.specs.Board.{Kept, bytes_of, drawing_of, edge_of}
 use Rattle.dense.specs.Cells.{enough}
 use Rattle.skins.specs.declared.Skin.{Skin}
 use Rattle.skins.specs.declared.Skin.TheVariants.{Thick, Thin}
@@ -29,9 +29,7 @@ some_make s ts x y z = some (makes s (cell_at x y z)) ts
 -- the board b is the board a with those cells of the box marked that pass the test; the other cells, the side, what fits and the bytes that
 -- no cell lies in are as they were
 pub record Marked (a b : Dense) (test : ℕ → ℕ → ℕ → Bool) : Type 0 where
-  pub sound : Sound b
-  pub tied : Tied a b
-  pub same_fits : fits_in b ≡ fits_in a
+  pub kept : Kept a b
   pub cells : (x y z : ℕ) → in_box (edge_of a) x y z ≡ true
       → drawing_of b (number (edge_of a) x y z) ≡ (drawing_of a (number (edge_of a) x y z) || test x y z)
 

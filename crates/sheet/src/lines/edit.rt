@@ -1,4 +1,4 @@
-ghost use Rattle.std.specs.Prelude.{◌≡◌, ◌≤◌, [], length, nat_le};
+ghost use Rattle.std.specs.Prelude.{◌≡◌, ◌≤◌, ◌↔◌, [], length, IsTrue};
 ghost use Rattle.std.specs.List.{slice_get};
 ghost use Rattle.sheet.specs.Sheets.{Added, lines_of, side_of, total};
 
@@ -13,10 +13,7 @@ impl Sheet {
     {
         Sheet {
             side,
-            lines: [Line {
-                triangles: 0,
-                flips: 0,
-            }; MOST_LINES],
+            lines: [Line::default(); MOST_LINES],
             used: 0,
         }
     }
@@ -30,7 +27,7 @@ impl Sheet {
 
     /// Whether sixteen lines stand, so that there is no room for another.
     pub fn is_full(&self) -> bool
-        ensures { result ≡ nat_le 16 (length (lines_of self.now)) }
+        ensures { IsTrue result ↔ (16 ≤ length (lines_of self.now)) }
     {
         self.used == MOST_LINES
     }
@@ -39,18 +36,14 @@ impl Sheet {
     pub fn line(&self, i: usize) -> Option<Line>
         ensures { result ≡ slice_get (lines_of self.now) i }
     {
-        if i < self.used {
-            Some(self.lines[i])
-        } else {
-            None
-        }
+        self.lines[..self.used].get(i).copied()
     }
 
     /// Fills one more line. Refusal 5 where sixteen stand: then nothing is changed.
     pub fn add(&mut self, triangles: u32, flips: u32) -> Result<(), Refusal>
         ensures { Added self.old triangles flips self.new result }
     {
-        if self.used >= MOST_LINES {
+        if self.is_full() {
             return Err(Refusal::FullSheet);
         }
         self.lines[self.used] = Line { triangles, flips };
@@ -62,7 +55,7 @@ impl Sheet {
     pub fn triangles(&self) -> u64
         ensures { result ≡ total (lines_of self.now) }
     {
-        triangles_of(&self.lines[0..self.used])
+        triangles_of(&self.lines[..self.used])
     }
 }
 
@@ -71,9 +64,10 @@ fn triangles_of(lines: &[Line]) -> u64
     requires { length lines.now ≤ 16 }
     ensures { result ≡ total lines.now }
 {
+    // a `for`, not the sum of a chain: docs/DECISIONS.md names the form by place
     let mut sum = 0;
     for line in lines {
-        sum += line.triangles as u64;
+        sum += u64::from(line.triangles);
     }
     sum
 }

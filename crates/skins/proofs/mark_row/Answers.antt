@@ -1,10 +1,9 @@
 use Rattle.std.proofs.Common.{◌&&◌, eqb, arith}
-use Rattle.geometry.specs.Read.{triangle_of}
-use Rattle.skins.specs.Skins.{made_at}
+use Rattle.skins.specs.Coats.{made_by}
 use Rattle.skins.proofs.Marks.{marked_on}
 use Rattle.skins.proofs.Ranges.{first_more}
 use Rattle.skins.proofs.mark_row.Goals as goal
 
 pub loop-x-preserved : goal.loop-x-preserved
 loop-x-preserved c =
-    (omega arith, marked_on (λ u v w. first_more c.args.xs.start c.loop-x.x u c.loop-x.auto.x (eqb v c.args.y && (eqb w c.args.z && made_at c.args.skin (triangle_of c.args.facet.now) u v w))) c.loop-x.invariant.1 c.mark_cell.ensures)
+    (omega arith, marked_on (λ u v w. first_more c.args.xs.start c.loop-x.x u c.loop-x.auto.x (eqb v c.args.y && (eqb w c.args.z && made_by c.args.coat.now u v w))) c.loop-x.invariant.1 c.mark_cell.ensures)

@@ -24,4 +24,4 @@ loop-facet-preserved c =
     map_more triangle_of fs i f c.loop-facet-test.true ∙ ap (λ g. ts ++ triangle_of g ∷ []) (sym c.facet-item.is) in
     marked_on
     (λ x y z. or_more c.args.skin (triangle_of f) ts x y z ∙ ap (λ us. some_make c.args.skin us x y z) (sym more))
-    c.loop-facet.invariant c.mark_facet.ensures
+    c.loop-facet.invariant c.mark_coat.ensures

@@ -6,7 +6,7 @@ use Rattle.dense.proofs.BitLaws.{cells_turned}
 use Rattle.dense.proofs.bits.turn_run.Goals as goal
 
 pub loop-k-init : goal.loop-k-init
-loop-k-init c = (sym (turned_none (cell_in c.args.cells.now) c.args.lo), λ m h. refl)
+loop-k-init c = (sym (turned_none (cell_in c.args.cells.now) c.args.run.start), λ m h. refl)
 
 pub loop-k-preserved : goal.loop-k-preserved
 loop-k-preserved c =
@@ -17,6 +17,6 @@ loop-k-preserved c =
       ap cell_in c.turn_cell.ensures
           ∙ cells_turned bs k within
           ∙ ap (λ (d : ℕ → Bool). turned d k (k + 1)) c.loop-k.invariant.0
-          ∙ turned_joins (cell_in c.args.cells.now) c.args.lo k (k + 1) c.loop-k.auto.k up,
+          ∙ turned_joins (cell_in c.args.cells.now) c.args.run.start k (k + 1) c.loop-k.auto.k up,
       λ m h. let low : k / 8 < m = omega arith in ap (drop m) c.turn_cell.ensures ∙ drop-set-lt m bs (k / 8) _ low ∙ c.loop-k.invariant.1 m h,
     )

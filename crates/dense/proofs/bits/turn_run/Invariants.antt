@@ -4,4 +4,4 @@ use Rattle.dense.specs.Cells.{cell_in}
 use Rattle.dense.proofs.bits.turn_run.Given as goal
 
 abbrev pub invariant-loop-k : goal.invariant-loop-k
-invariant-loop-k l = (cell_in l.cells ≡ turned (cell_in l.initial.cells) l.lo l.k) × ((m : ℕ) → l.hi ≤ 8 * m → drop m l.cells ≡ drop m l.initial.cells)
+invariant-loop-k l = (cell_in l.cells ≡ turned (cell_in l.initial.cells) l.fn.run.start l.k) × ((m : ℕ) → l.fn.run.end ≤ 8 * m → drop m l.cells ≡ drop m l.initial.cells)
