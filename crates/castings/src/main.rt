@@ -2,110 +2,77 @@
 //! x + 2 y + 4 z.
 #![tactic(auto)]
 
-use geometry::{Cell, Facet, Point, Row};
-use rows::solid_row;
-use shapes::{cuboid, doubled_triangle, point, tetrahedron};
-use std::alloc::{AllocError, Global};
+use anyhow::bail;
+use cells::{Marks, solid_cells};
+use geometry::{Face, Facet, Point};
+use shapes::{Cuboid, FaceList, Nines, Shape};
 
-mod shapes;
+mod cells;
 
-/// How many cells the box has along each axis.
-const SIDE: u8 = 2;
-
-/// The cells that at least one triangle makes thin, and those that at least one makes thick.
-#[derive(Drop)]
-struct Skins {
-    thin: Vec<bool>,
-    thick: Vec<bool>,
-}
-
-/// Which cells the triangles make solid, by cell number.
-fn solid_cells(heap: Global, facets: &[Facet]) -> Result<Vec<bool>, AllocError> {
-    let mut cells = Vec::new(heap);
-    for z in 0..SIDE {
-        for y in 0..SIDE {
-            let mut row = [false; SIDE as usize];
-            solid_row(facets, Row { y, z }, &mut row);
-            cells.extend_from_slice(&row)?;
-        }
+/// The triangles of a shape.
+fn facets_of<S: Shape>(rt: &HostRuntime, shape: &S) -> anyhow::Result<Vec<Facet>> {
+    let mut facets = Vec::new(rt.alloc());
+    for i in 0..shape.count() {
+        let Some(facet) = shape.entry(i).and_then(Facet::new) else {
+            bail!("an entry is a hole, or a coordinate is out of range");
+        };
+        facets.push(facet)?;
     }
-    Ok(cells)
-}
-
-/// Whether one of the triangles makes the cell thin.
-fn is_thin(facets: &[Facet], cell: Cell) -> bool {
-    for facet in facets {
-        if facet.makes_thin(cell) {
-            return true;
-        }
-    }
-    false
-}
-
-/// Whether one of the triangles makes the cell thick.
-fn is_thick(facets: &[Facet], cell: Cell) -> bool {
-    for facet in facets {
-        if facet.makes_thick(cell) {
-            return true;
-        }
-    }
-    false
-}
-
-/// Which cells the triangles make thin and which thick, by cell number.
-fn skin_cells(heap: Global, facets: &[Facet]) -> Result<Skins, AllocError> {
-    let mut thin = Vec::new(heap);
-    let mut thick = Vec::new(heap);
-    for z in 0..SIDE {
-        for y in 0..SIDE {
-            for x in 0..SIDE {
-                let cell = Cell { x, y, z };
-                thin.push(is_thin(facets, cell))?;
-                thick.push(is_thick(facets, cell))?;
-            }
-        }
-    }
-    Ok(Skins { thin, thick })
-}
-
-/// The numbers of the marked cells, or that there is none.
-fn list(heap: Global, cells: &[bool]) -> Result<String, AllocError> {
-    let mut out = String::new(heap);
-    for (number, marked) in cells.iter().enumerate() {
-        if *marked {
-            out.push_str(format!(in heap; " {number}")?.as_str())?;
-        }
-    }
-    if out.is_empty() {
-        out.push_str(" none")?;
-    }
-    Ok(out)
+    Ok(facets)
 }
 
 /// Prints the line of a casting.
-fn show(rt: &HostRuntime, name: &str, facets: &[Facet]) -> anyhow::Result<()> {
-    let heap = rt.alloc();
-    let skins = skin_cells(heap, facets)?;
-    let solid = list(heap, solid_cells(heap, facets)?.as_slice())?;
-    let thin = list(heap, skins.thin.as_slice())?;
-    let thick = list(heap, skins.thick.as_slice())?;
+fn show<S: Shape>(rt: &HostRuntime, name: &str, casting: &S) -> anyhow::Result<()> {
+    let facets = facets_of(rt, casting)?;
+    let solid = solid_cells(facets.as_slice());
+    let thin = Marks::of(|cell| facets.iter().any(|facet| facet.makes_thin(cell)));
+    let thick = Marks::of(|cell| facets.iter().any(|facet| facet.makes_thick(cell)));
     println!(rt; "{name}: solid{solid}; thin{thin}; thick{thick}")?;
     Ok(())
 }
 
+fn point(x: i32, y: i32, z: i32) -> Point {
+    Point { x, y, z }
+}
+
 /// Prints the line of the box between two corners.
-fn show_cuboid(rt: &HostRuntime, name: &str, low: Point, high: Point) -> anyhow::Result<()> {
-    show(rt, name, cuboid(rt.alloc(), low, high)?.as_slice())
+fn show_cuboid(rt: &HostRuntime, name: &str, first: Point, second: Point) -> anyhow::Result<()> {
+    show(rt, name, &Cuboid { first, second })
+}
+
+/// Prints the line of the tetrahedron with a corner at the origin and the others so far along the axes.
+fn show_tetrahedron(rt: &HostRuntime, name: &str, leg: i32) -> anyhow::Result<()> {
+    let points = [
+        point(0, 0, 0),
+        point(leg, 0, 0),
+        point(0, leg, 0),
+        point(0, 0, leg),
+    ];
+    let faces = [
+        Face { a: 1, b: 2, c: 3 },
+        Face { a: 1, b: 2, c: 4 },
+        Face { a: 1, b: 3, c: 4 },
+        Face { a: 2, b: 3, c: 4 },
+    ];
+    show(
+        rt,
+        name,
+        &FaceList {
+            points: &points,
+            faces: &faces,
+        },
+    )
 }
 
 /// Castings whose walls stand about the centre of the first cell, which is at 8 on each axis.
 fn show_about_the_centre(rt: &HostRuntime) -> anyhow::Result<()> {
-    let heap = rt.alloc();
     show_cuboid(rt, "cube 0 to 16", point(0, 0, 0), point(16, 16, 16))?;
     show_cuboid(rt, "cube 8 to 24", point(8, 8, 8), point(24, 24, 24))?;
-    show(rt, "tetrahedron of 40", tetrahedron(heap, 40)?.as_slice())?;
-    show(rt, "tetrahedron of 41", tetrahedron(heap, 41)?.as_slice())?;
-    show(rt, "triangle twice", doubled_triangle(heap)?.as_slice())
+    show_tetrahedron(rt, "tetrahedron of 40", 40)?;
+    show_tetrahedron(rt, "tetrahedron of 41", 41)?;
+    // one triangle, level with the centres of the lower cells, twice
+    let numbers = [0, 0, 8, 32, 0, 8, 0, 32, 8, 0, 0, 8, 32, 0, 8, 0, 32, 8];
+    show(rt, "triangle twice", &Nines { numbers: &numbers })
 }
 
 /// Boxes that begin before the first cell and reach a given x.

@@ -1,5 +1,5 @@
 -- What the sign of a number does in a test.
-use Rattle.std.proofs.Common.{◌≡◌, ℕ, ◌*◌, cond, ◌||◌, leb, ℤ, pos, negsuc, ◌-ℤ◌, ◌*ℤ◌, nat_abs, ◌≤ℤ◌, ◌<ℤ◌, sym, ap, ◌∙◌, arith}
+use Rattle.std.proofs.Common.{◌≡◌, cond, ◌||◌, ℤ, pos, negsuc, ◌-ℤ◌, ◌*ℤ◌, nat_abs, ◌≤ℤ◌, ◌<ℤ◌, sym, ap, ◌∙◌, arith}
 use Rattle.std.specs.Int.{int_min, int_max}
 use Rattle.std.proofs.lemmas.Int.{ints, by_lt_z}
 use lib.Signed.{le_z}
@@ -24,26 +24,14 @@ inner_down way v h = rw (sign_down way h) (one v)
     one : (v : ℤ) → le_z v (pos 0) ≡ le_z (pos 0) (negsuc 0 *ℤ v)
     one v = grind (arith, ints)
 
-pub rises_up : (way a b : ℤ) → pos 0 ≤ℤ way → le_z a b ≡ le_z (pos 0) (sign way *ℤ (b -ℤ a))
-rises_up way a b h = gap a b ∙ inner_up way (b -ℤ a) h
-  where
-    gap : (a b : ℤ) → le_z a b ≡ le_z (pos 0) (b -ℤ a)
-    gap a b = grind (arith, ints)
-
-pub rises_down : (way a b : ℤ) → way <ℤ pos 0 → le_z b a ≡ le_z (pos 0) (sign way *ℤ (b -ℤ a))
-rises_down way a b h = gap a b ∙ inner_down way (b -ℤ a) h
-  where
-    gap : (a b : ℤ) → le_z b a ≡ le_z (b -ℤ a) (pos 0)
-    gap a b = grind (arith, ints)
-
 -- a number times its sign is its size
-pub size_up : (a : ℤ) → pos 0 ≤ℤ a → a ≡ size a
+size_up : (a : ℤ) → pos 0 ≤ℤ a → a ≡ size a
 size_up a h = one a ∙ ap (λ s. s *ℤ a) (sym (sign_up a h))
   where
     one : (a : ℤ) → a ≡ pos 1 *ℤ a
     one a = omega (arith, ints)
 
-pub size_down : (a : ℤ) → a <ℤ pos 0 → pos 0 -ℤ a ≡ size a
+size_down : (a : ℤ) → a <ℤ pos 0 → pos 0 -ℤ a ≡ size a
 size_down a h = one a ∙ ap (λ s. s *ℤ a) (sym (sign_down a h))
   where
     one : (a : ℤ) → pos 0 -ℤ a ≡ negsuc 0 *ℤ a

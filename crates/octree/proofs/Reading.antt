@@ -8,16 +8,7 @@ use Rattle.octree.specs.declared.cells.Group.{Group}
 use Rattle.octree.specs.Regions.{width, start_of}
 use Rattle.octree.specs.Trees.{children_of, child_at, which_child, minus, solid_at, has_group, has, uses}
 use Rattle.octree.specs.OnTheWay.{Readable, There, Tight}
-use Rattle.octree.proofs.Places.{child_below}
-use Rattle.octree.proofs.Trees.{child_empty, child_solid, tight_child, uses_child, one_self}
-
-pub empty_dark : (gs : List Group) (n : ℕ) (c : Cell) → solid_at gs n Empty c ≡ false
-empty_dark gs zero c = refl
-empty_dark gs (suc n) c = ap (λ (r : Child). solid_at gs n r (minus c (start_of (width n) (which_child (width n) c)))) (child_empty gs (which_child (width n) c)) ∙ empty_dark gs n (minus c (start_of (width n) (which_child (width n) c)))
-
-pub solid_light : (gs : List Group) (n : ℕ) (c : Cell) → solid_at gs n Solid c ≡ true
-solid_light gs zero c = refl
-solid_light gs (suc n) c = ap (λ (r : Child). solid_at gs n r (minus c (start_of (width n) (which_child (width n) c)))) (child_solid gs (which_child (width n) c) (child_below (width n) c)) ∙ solid_light gs n (minus c (start_of (width n) (which_child (width n) c)))
+use Rattle.octree.proofs.Trees.{tight_child, uses_child, one_self}
 
 -- no single cell is split
 pub split_above : (gs : List Group) (n : ℕ) (r : Child) → Tight gs n r → has_group r ≡ 1 → 1 ≤ n

@@ -12,7 +12,7 @@ use Rattle.octree.specs.Trees.{no_group, child_at, has_group, has, FreedList, fr
 use Rattle.octree.specs.OnTheWay.{all_empty, all_solid, kind_of, blend, Apart, Taken, Freed, Settled}
 use Rattle.octree.proofs.Eights.{all8_each}
 use Rattle.octree.proofs.NeedLaws.{blend_empty, blend_solid}
-use Rattle.octree.proofs.Trees.{child_empty, child_solid}
+use Rattle.octree.proofs.Trees.{leaf_child, leaf_has}
 use Rattle.octree.proofs.Stock.{one_eq, freed_frame, listed_frame, with_groups}
 
 pub blend_ext : (f g : ℕ → Kind) → ((k : ℕ) → k < 8 → f k ≡ g k) → blend f ≡ blend g
@@ -31,23 +31,18 @@ blend_ext f g h =
 
 is_empty : (r : Child) → all_empty (kind_of r) ≡ true → r ≡ Empty
 is_empty Empty e = refl
-is_empty Solid e = let z : ◌≡◌ {A = ℕ} 0 1 = cc in absurd (omega arith)
-is_empty (Split g) e = let z : ◌≡◌ {A = ℕ} 0 1 = cc in absurd (omega arith)
+is_empty Solid e = absurd cc
+is_empty (Split g) e = absurd cc
 
 is_solid : (r : Child) → all_solid (kind_of r) ≡ true → r ≡ Solid
-is_solid Empty e = let z : ◌≡◌ {A = ℕ} 0 1 = cc in absurd (omega arith)
+is_solid Empty e = absurd cc
 is_solid Solid e = refl
-is_solid (Split g) e = let z : ◌≡◌ {A = ℕ} 0 1 = cc in absurd (omega arith)
+is_solid (Split g) e = absurd cc
 
 leaf_holds : (gs : List Group) (r : Child) (f : ℕ → Child) → has_group r ≡ 0 → kind_of r ≡ blend (λ k. kind_of (f k)) → (k : ℕ) → k < 8 → child_at gs r k ≡ f k
-leaf_holds gs Empty f z e k l = child_empty gs k ∙ sym (is_empty (f k) (all8_each (λ j. all_empty (kind_of (f j))) (sym (blend_empty (λ j. kind_of (f j))) ∙ sym (ap all_empty e)) k l))
-leaf_holds gs Solid f z e k l = child_solid gs k l ∙ sym (is_solid (f k) (all8_each (λ j. all_solid (kind_of (f j))) (sym (blend_solid (λ j. kind_of (f j))) ∙ sym (ap all_solid e)) k l))
+leaf_holds gs Empty f z e k l = leaf_child gs Empty k refl l ∙ sym (is_empty (f k) (all8_each (λ j. all_empty (kind_of (f j))) (sym (blend_empty (λ j. kind_of (f j))) ∙ sym (ap all_empty e)) k l))
+leaf_holds gs Solid f z e k l = leaf_child gs Solid k refl l ∙ sym (is_solid (f k) (all8_each (λ j. all_solid (kind_of (f j))) (sym (blend_solid (λ j. kind_of (f j))) ∙ sym (ap all_solid e)) k l))
 leaf_holds gs (Split g) f z e k l = absurd (omega arith)
-
-leaf_has : (r : Child) (i : ℕ) → has_group r ≡ 0 → has r i ≡ 0
-leaf_has Empty i z = refl
-leaf_has Solid i z = refl
-leaf_has (Split g) i z = absurd (omega arith)
 
 -- a region that is all alike frees its group
 pub settled_leaf : (s s' : Store) (r r' : Child) (cs : List Child) → has_group r' ≡ 0 → kind_of r' ≡ blend (λ k. kind_of (get_or cs k Empty)) → Freed s r s' → Settled s r cs s' r'

@@ -125,35 +125,39 @@ taken_own s g A = record { same = refl; within = own_within s (Split g) A; spent
 abbrev pub with_groups : Store → List Group → Store
 with_groups s gs = record s { groups = record s.groups { now = gs } }
 
-pub freed_again : (s : Store) (gs' : List Group) (g : GroupId) (l : Child) (cs : List Child) → Apart s (Split g) → 0 < length cs → group_of l ≡ s.last
-    → gs' ≡ set s.groups.now g.index (record { children = set cs 0 l }) → Freed s (Split g) (record (with_groups s gs') { freed = s.freed + 1; last = Some g })
-freed_again s gs' g l cs A some el e = record {
-  lent = refl;
+pub freed_again : (s s' : Store) (g : GroupId) (l : Child) (cs : List Child) → Apart s (Split g) → 0 < length cs → group_of l ≡ s.last
+    → s'.groups.ghost_name ≡ s.groups.ghost_name → s'.groups.now ≡ set s.groups.now g.index (record { children = set cs 0 l }) → s'.mark ≡ s.mark → s'.freed ≡ s.freed + 1 → s'.last ≡ Some g
+    → Freed s (Split g) s'
+freed_again s s' g l cs A some el lent e em ef es = record {
+  lent = lent;
   long = long;
   kept = λ i z. kept i (λ f. omega (arith, z, one_eq g.index i (sym f)));
-  back = λ i. omega (arith, chain i);
-  more = omega (arith, long);
+  back = λ i. omega (arith, chain i, ap (λ m. one (leb m i)) em);
+  more = omega (arith, long, em, ef, A.few);
   counted = record {
-    marked = omega (arith, A.counted.marked, long);
-    below = omega (arith, A.few, A.counted.marked);
-    listed = subst (λ m. FreedList gs' m (Some g)) (sym (add-one s.freed)) (subst (λ (x : Option GroupId). FreedList gs' s.freed x) (sym here) (listed_frame s.groups.now gs' s.freed s.last apart A.counted.listed));
+    marked = omega (arith, A.counted.marked, long, em);
+    below = omega (arith, A.few, A.counted.marked, em, ef);
+    listed = subst (λ m. FreedList s'.groups.now m s'.last) (sym (ef ∙ add-one s.freed)) (subst (λ (x : Option GroupId). FreedList s'.groups.now (suc s.freed) x) (sym es) (subst (λ (x : Option GroupId). FreedList s'.groups.now s.freed x) (sym here) (listed_frame s.groups.now s'.groups.now s.freed s.last apart A.counted.listed)));
   };
 }
   where
-    long : length gs' ≡ length s.groups.now
+    long : length s'.groups.now ≡ length s.groups.now
     long = ap length e ∙ length-set s.groups.now g.index _
 
-    kept : (i : ℕ) → (i ≡ g.index → ⊥) → get_or gs' i no_group ≡ get_or s.groups.now i no_group
+    kept : (i : ℕ) → (i ≡ g.index → ⊥) → get_or s'.groups.now i no_group ≡ get_or s.groups.now i no_group
     kept i ne = ap (λ (x : List Group). get_or x i no_group) e ∙ get_or-set_other s.groups.now g.index i _ no_group ne
 
-    here : freed_before gs' g ≡ s.last
+    here : freed_before s'.groups.now g ≡ s.last
     here = ap (λ (x : List Group). freed_before x g) e
         ∙ ap (λ (x : Group). group_of (get_or x.children 0 Empty)) (get_or-set_same s.groups.now g.index (record { children = set cs 0 l }) no_group (own_within s (Split g) A))
         ∙ ap group_of (get_or-set_same cs 0 l Empty some)
         ∙ el
 
-    apart : (i : ℕ) → 0 < freed_at s.groups.now s.freed s.last i → get_or gs' i no_group ≡ get_or s.groups.now i no_group
+    apart : (i : ℕ) → 0 < freed_at s.groups.now s.freed s.last i → get_or s'.groups.now i no_group ≡ get_or s.groups.now i no_group
     apart i p = kept i (λ f. omega (arith, A.once i, p, one_eq g.index i (sym f)))
 
-    chain : (i : ℕ) → freed_at gs' (s.freed + 1) (Some g) i ≡ one (eqb g.index i) + freed_at s.groups.now s.freed s.last i
-    chain i = ap (λ m. freed_at gs' m (Some g) i) (add-one s.freed) ∙ ap (λ m. one (eqb g.index i) + m) (ap (λ (x : Option GroupId). freed_at gs' s.freed x i) here ∙ freed_frame s.groups.now gs' s.freed s.last apart i)
+    chain : (i : ℕ) → freed_at s'.groups.now s'.freed s'.last i ≡ one (eqb g.index i) + freed_at s.groups.now s.freed s.last i
+    chain i =
+        ap (λ m. freed_at s'.groups.now m s'.last i) (ef ∙ add-one s.freed)
+        ∙ ap (λ (x : Option GroupId). freed_at s'.groups.now (suc s.freed) x i) es
+        ∙ ap (λ m. one (eqb g.index i) + m) (ap (λ (x : Option GroupId). freed_at s'.groups.now s.freed x i) here ∙ freed_frame s.groups.now s'.groups.now s.freed s.last apart i)

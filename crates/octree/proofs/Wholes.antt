@@ -2,7 +2,10 @@
 use Rattle.std.proofs.Common.{◌≡◌, ℕ, ◌+◌, ◌-◌, ◌*◌, ◌≤◌, Bool, true, false, ltb, leb, Option, None, List, length, sym, refl, ap, ◌∙◌, subst, ⊎_elim, arith, lit≤}
 use mathlib.Core.Path.{fun_ext}
 use Rattle.std.proofs.lemmas.Bool.{leb-true, le-leb, lt-leb, cases_lt, cond_both}
+use Rattle.refusals.specs.declared.box_side.BoxSide.{BoxSide}
+use Rattle.refusals.specs.BoxSides.{cells_of}
 use Rattle.refusals.specs.Sides.{is_side}
+use Rattle.refusals.proofs.SideLaws.{cells_of_one}
 use Rattle.block.specs.Drawing.{blank, changed, in_box, in_row, number}
 use Rattle.block.proofs.Numbers.{in_box_true, in_row_true}
 use Rattle.block.proofs.Sides.{by_side}
@@ -14,13 +17,14 @@ use Rattle.octree.specs.declared.cells.Group.{Group}
 use Rattle.octree.specs.declared.cells.GroupId.{GroupId}
 use Rattle.block.specs.declared.cells.Run.{Run}
 use Rattle.octree.specs.declared.store.Store.{Store}
+use Rattle.octree.specs.declared.Octree.{Octree}
+use Rattle.octree.specs.Meaning.{edge_of, drawing_of, Kept, Sound}
 use Rattle.octree.specs.Laws.{blank_need}
 use Rattle.octree.specs.Regions.{level_of, origin, need_of, needed, room}
 use Rattle.octree.specs.Trees.{cell_of, solid_at, group_count, uses, shown, FreedList, freed_at, Whole}
 use Rattle.octree.specs.OnTheWay.{flipped, Lies, Tight, Readable, Planned, left, Ready, Moved}
 use Rattle.octree.proofs.NeedLaws.{most, need_most}
-use Rattle.octree.proofs.Trees.{leaf_uses, leaf_count}
-use Rattle.octree.proofs.Reading.{empty_dark}
+use Rattle.octree.proofs.Trees.{leaf_shows, leaf_uses, leaf_count}
 use Rattle.octree.proofs.Stock.{one_le}
 use Rattle.octree.proofs.Boxes.{box_width, shown_cell, shown_need, changed_need, changed_shown}
 
@@ -28,9 +32,21 @@ use Rattle.octree.proofs.Boxes.{box_width, shown_cell, shown_need, changed_need,
 few_needed : (n : ℕ) → is_side n ≡ true → most (level_of n) ≤ 37449
 few_needed = by_side (λ n. most (level_of n) ≤ 37449) (lit≤ tt) (lit≤ tt) (lit≤ tt) (lit≤ tt) (lit≤ tt) (lit≤ tt)
 
-module _ (n : ℕ) (a : is_side n ≡ true) (st : Store) (r : Child) (W : Whole n st r) where
+module _ (o : Octree) (W : Sound o) where
+  abbrev n : ℕ
+  n = edge_of o
+
+  a : is_side n ≡ true
+  a = cells_of_one o.side
+
+  abbrev st : Store
+  st = o.store
+
   abbrev gs : List Group
   gs = st.groups.now
+
+  abbrev r : Child
+  r = o.root
 
   tight : Tight gs (level_of n) r
   tight = W.exact ∙ shown_need n a gs r
@@ -100,29 +116,32 @@ module _ (n : ℕ) (a : is_side n ≡ true) (st : Store) (r : Child) (W : Whole 
         moved : Moved st (level_of n) r (flipped w (solid_at gs (level_of n) r)) st' r'
         moved = subst (λ m. Moved st m r (flipped w (solid_at gs m r)) st' r') el M
 
-        pub whole_kept : Whole n st' r'
-        whole_kept = record {
+        sound : Whole n st' r'
+        sound = record {
           exact = moved.tight ∙ sym (shown_need n a gs' r');
           once = λ i. moved.shared i ∙ W.once i;
           count = omega (arith, moved.total, moved.long, moved.counted.marked, W.count, W.counted.marked);
           counted = moved.counted;
         }
 
-        pub whole_drawn : shown n gs' r' ≡ after
+        pub whole_kept : Kept o (record o { store = st'; root = r' })
+        whole_kept = record { still_sound = sound; same_loans = M.lent; same_side = refl; same_fits = ap (room n) M.long }
+
+        pub whole_drawn : drawing_of (record o { store = st'; root = r' }) ≡ after
         whole_drawn = changed_shown n a gs r w (lies w h) gs' r' moved.drawn
 
 -- ---- a new octree
 
 pub fresh_blank : (n : ℕ) (gs : List Group) → shown n gs Empty ≡ blank
 unfolding shown
-fresh_blank n gs = fun_ext (λ k. cond_both (ltb k (n * n * n)) _ false (λ b. b ≡ false) (λ e. empty_dark gs (level_of n) (cell_of n k)) (λ e. refl))
+fresh_blank n gs = fun_ext (λ k. cond_both (ltb k (n * n * n)) _ false (λ b. b ≡ false) (λ e. leaf_shows gs (level_of n) Empty (cell_of n k) refl) (λ e. refl))
 
-pub fresh_whole : (n : ℕ) (s : Store) → s.mark ≡ 0 → s.freed ≡ 0 → s.last ≡ None → Whole n s Empty
+pub fresh_whole : (b : BoxSide) (s : Store) → s.mark ≡ 0 → s.freed ≡ 0 → s.last ≡ None → Whole (cells_of b) s Empty
 unfolding needed
-fresh_whole n s em ef el = record {
-  exact = leaf_count s.groups.now (level_of n) Empty refl ∙ sym (ap (needed n) (fresh_blank n s.groups.now) ∙ blank_need (level_of n) origin);
-  once = λ i. omega (arith, leaf_uses s.groups.now (level_of n) Empty i refl, one_le s.mark i (omega (arith, em)), ap (λ m. freed_at s.groups.now m s.last i) ef);
-  count = omega (arith, leaf_count s.groups.now (level_of n) Empty refl, em, ef);
+fresh_whole b s em ef el = record {
+  exact = leaf_count s.groups.now (level_of (cells_of b)) Empty refl ∙ sym (ap (needed (cells_of b)) (fresh_blank (cells_of b) s.groups.now) ∙ blank_need (level_of (cells_of b)) origin);
+  once = λ i. omega (arith, leaf_uses s.groups.now (level_of (cells_of b)) Empty i refl, one_le s.mark i (omega (arith, em)), ap (λ m. freed_at s.groups.now m s.last i) ef);
+  count = omega (arith, leaf_count s.groups.now (level_of (cells_of b)) Empty refl, em, ef);
   counted = record {
     marked = omega (arith, em);
     below = omega (arith, ef);

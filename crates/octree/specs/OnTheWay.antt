@@ -43,8 +43,10 @@ run_in h w k = record { y = w.y - (start_of h k).y; z = w.z - (start_of h k).z; 
 abbrev pub row_child : ℕ → Run → ℕ → ℕ
 row_child h w x = which_child h (record { x = x; y = w.y; z = w.z })
 
-abbrev pub part_at : ℕ → Run → ℕ → Part
-part_at h w x = record { child = row_child h w x; run = run_in h w (row_child h w x) }
+-- the child that the cell x of the run's row lies in, with the part of the run in it
+pub record IsPartAt (h : ℕ) (w : Run) (x : ℕ) (p : Part) : Type 0 where
+  pub child : p.child ≡ row_child h w x
+  pub run : p.run ≡ run_in h w (row_child h w x)
 
 -- ---- what a region holds
 
@@ -182,7 +184,7 @@ pub record Moved (s : Store) (n : ℕ) (r : Child) (p : Cell → Bool) (s' : Sto
 
 -- the two parts of a run, the lower one and the higher one
 abbrev pub Halves : ℕ → Run → Part → Part → Type 0
-Halves h w low high = (low ≡ part_at h w 0) × (high ≡ part_at h w h)
+Halves h w low high = IsPartAt h w 0 low × IsPartAt h w h high
 
 -- the parts in the order in which they are to change: that whose need grows less comes first
 pub record Ordered (gs : List Group) (n : ℕ) (cs : List Child) (w : Run) (first second : Part) : Type 0 where

@@ -1,6 +1,6 @@
 //! What an octree is made of.
 
-ghost use Rattle.std.specs.Prelude.{◌≡◌};
+ghost use Rattle.std.specs.Prelude.{◌≡◌, ◌<◌};
 ghost use Rattle.octree.specs.Trees.{group_of};
 
 use block::Run;
@@ -69,6 +69,7 @@ pub enum Kind {
 pub struct Part {
     pub child: usize,
     pub run: Run,
+    ghost within: { child < 8 },
 }
 
 /// What changing a run does to a region: what the region holds then, and how many of the regions that the run meets are mixed before and

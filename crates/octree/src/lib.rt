@@ -18,8 +18,8 @@ mod store;
 mod tree;
 mod turn;
 
-pub use cells::Group;
 use cells::Child;
+pub use cells::Group;
 use region::Level;
 use store::Store;
 use tree::{look, plan};
@@ -36,6 +36,7 @@ pub struct Octree<'a> {
 
 impl<'a> Octree<'a> {
     /// A blank octree. Nothing is written into the groups, and what they hold does not matter.
+    #[tactic(auto, using(crate::proofs::Wholes::fresh_blank))]
     pub fn new(side: BoxSide, groups: &'a mut [Group]) -> Octree<'a>
         ensures sound { Sound result }
         ensures edge { edge_of result ≡ cells_of side }
@@ -52,6 +53,7 @@ impl<'a> Octree<'a> {
     }
 
     /// Whether a cell of the box is solid.
+    #[tactic(auto, using(crate::proofs::Wholes::whole_readable, crate::proofs::Wholes::whole_look))]
     fn is_solid(&self, cell: Cell) -> bool
         requires sound { Sound self.now }
         requires inside { in_box (edge_of self.now) cell.x cell.y cell.z ≡ true }
@@ -61,6 +63,7 @@ impl<'a> Octree<'a> {
     }
 
     /// Whether the drawing fits with the cells of a run changed.
+    #[tactic(auto, using(crate::proofs::Wholes::whole_readable, crate::proofs::Wholes::whole_lies))]
     fn takes(&self, run: Run) -> bool
         requires sound { Sound self.now }
         requires inside { in_row (edge_of self.now) run ≡ true }
@@ -71,6 +74,7 @@ impl<'a> Octree<'a> {
     }
 
     /// Changes the cells of a run.
+    #[tactic(auto, using(crate::proofs::Wholes::whole_drawn))]
     fn change(&mut self, run: Run)
         requires sound { Sound self.old }
         requires inside { in_row (edge_of self.old) run ≡ true }

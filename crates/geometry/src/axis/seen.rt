@@ -27,18 +27,9 @@ impl Axis {
         ensures b { result.b.value ≡ second_of self (point_of p) }
     {
         match self {
-            Axis::X => Flat {
-                a: p.y,
-                b: p.z,
-            },
-            Axis::Y => Flat {
-                a: p.z,
-                b: p.x,
-            },
-            Axis::Z => Flat {
-                a: p.x,
-                b: p.y,
-            },
+            Axis::X => Flat { a: p.y, b: p.z },
+            Axis::Y => Flat { a: p.z, b: p.x },
+            Axis::Z => Flat { a: p.x, b: p.y },
         }
     }
 
@@ -81,7 +72,8 @@ pub(crate) fn edge(u: Flat, v: Flat, q: Flat) -> i32
         diff(v.b, u.b),
         diff(q.a, u.a),
         diff(q.b, u.b),
-    ).value
+    )
+    .value
 }
 
 impl View {
@@ -89,7 +81,11 @@ impl View {
     pub(crate) fn is_inner(self, value: i32) -> bool
         ensures { result ≡ int_le (pos 0) (sign self.way *ℤ value) }
     {
-        if self.way >= 0 { value >= 0 } else { value <= 0 }
+        if self.way >= 0 {
+            value >= 0
+        } else {
+            value <= 0
+        }
     }
 
     /// Whether it goes up from `from` to `to`, or neither up nor down, where `way` tells which way is up.

@@ -19,7 +19,7 @@ impl Coordinate {
     fn new(value: i32) -> Option<Coordinate>
         ensures { option_map coordinate_of result ≡ (if in_range value then Some value else None) }
     {
-        if LEAST <= value && value <= GREATEST {
+        if (LEAST..=GREATEST).contains(&value) {
             Some(Coordinate { value })
         } else {
             None

@@ -89,7 +89,8 @@ impl Facet {
         ensures { result ≡ sign (normal_of (triangle_of self.now)).x *ℤ plane (point_of p) (triangle_of self.now) }
     {
         let value = self.plane(p);
-        if self.normal.x.value >= 0 { value } else { -value }
+        let along = self.normal.x.value;
+        if along >= 0 { value } else { -value }
     }
 
     /// By how much that grows from one cell of a row to the next.

@@ -26,7 +26,9 @@ impl View {
     {
         let from = self.axis.seen(u);
         let to = self.axis.seen(v);
-        let farthest = self.axis.corner(c, self.rises(to.b, from.b), self.rises(from.a, to.a));
+        let farthest = self
+            .axis
+            .corner(c, self.rises(to.b, from.b), self.rises(from.a, to.a));
         self.is_inner(edge(from, to, farthest))
     }
 }
@@ -47,6 +49,7 @@ impl Facet {
     fn is_met(&self, axis: Axis, q: Bounded) -> bool
         ensures { let t = triangle_of self.now in result ≡ met (first_of axis) (second_of axis) (along axis (normal_of t)) (point_of q) t }
     {
+        // The sides are written out, here and below: over an array of them each test needs a proof by hand, with `all` or without.
         let view = self.view(axis);
         view.way != 0
             && view.is_within_side(self.v0, self.v1, q)

@@ -1,51 +1,29 @@
-use Rattle.std.proofs.Common.{◌≡◌, suc, length, sym, subst, arith, rules}
-use Rattle.octree.specs.Trees.{solid_at}
-use Rattle.octree.specs.OnTheWay.{flipped, Lies, Ready, Moved}
-use Rattle.octree.proofs.Reading.{readable_there, readable_part}
-use Rattle.octree.proofs.Turning.{ready_readable, first_ready, second_ready, settle_apart, settle_some, turned}
+use Rattle.std.proofs.Common.{arith, rules}
+use Rattle.octree.proofs.Turning.{first_ready, second_ready, settle_apart, settle_some, turned}
 use Rattle.octree.proofs.turn.+turn.Goals as goal
 
-pub children-children-requires : goal.children-children-requires
-children-children-requires t c = readable_there c.args.store.now.groups.now c.args.level.number c.args.region (ready_readable c.args.store.now c.args.level.number c.args.region c.args.run c.requires)
-
-pub in_order-requires : goal.in_order-requires
-in_order-requires t c = record {
-  readable = readable_part c.args.store.now.groups.now c.below-below.result.number c.args.level.number c.args.region c.children-children.result c.below-below.ensures c.children-children.ensures (ready_readable c.args.store.now c.args.level.number c.args.region c.args.run c.requires);
-  lies = subst (λ m. Lies m c.args.run) c.below-below.ensures c.requires.lies;
-}
-
 pub turn-requires : goal.turn-requires
-turn-requires t c =
-    let eight : length c.children-children.result ≡ 8 = search rules in (
-      omega arith,
-      first_ready c.args.store.now c.below-below.result.number c.args.region c.args.run c.in_order.result.0 c.in_order.result.1 c.children-children.result c.children-children.ensures eight
-          (subst (λ m. Ready c.args.store.now m c.args.region c.args.run) c.below-below.ensures c.requires) c.in_order.ensures.order,
-    )
+turn-requires t c = (
+  omega arith,
+  first_ready c.args.store.now c.args.level.number c.below-below.result.number c.args.region c.args.run c.in_order.result.0 c.in_order.result.1 c.children-children.result c.below-below.ensures c.children-children.ensures (search rules) c.requires c.in_order.ensures,
+)
 
 pub turn-requires-2 : goal.turn-requires-2
-turn-requires-2 t c =
-    let eight : length c.children-children.result ≡ 8 = search rules in (
-      omega arith,
-      second_ready c.args.store.now c.below-below.result.number c.args.region c.args.run c.in_order.result.0 c.in_order.result.1 c.children-children.result c.children-children.ensures eight
-          (subst (λ m. Ready c.args.store.now m c.args.region c.args.run) c.below-below.ensures c.requires) c.in_order.ensures.order
-          c.turn.new.store c.turn.result c.turn.ensures,
-    )
+turn-requires-2 t c = (
+  omega arith,
+  second_ready c.args.store.now c.args.level.number c.below-below.result.number c.args.region c.args.run c.in_order.result.0 c.in_order.result.1 c.children-children.result c.below-below.ensures c.children-children.ensures (search rules) c.requires c.in_order.ensures
+      c.turn.new.store c.turn.result c.turn.ensures,
+)
 
 pub settle-requires : goal.settle-requires
-settle-requires t c =
-    let eight : length c.children-children.result ≡ 8 = search rules in
-    let R : Ready c.args.store.now (suc c.below-below.result.number) c.args.region c.args.run = subst (λ m. Ready c.args.store.now m c.args.region c.args.run) c.below-below.ensures c.requires in
-    record {
-      apart = settle_apart c.args.store.now c.below-below.result.number c.args.region c.args.run c.in_order.result.0 c.in_order.result.1 c.children-children.result c.children-children.ensures eight R c.in_order.ensures.order
-          c.turn.new.store c.turn.result c.turn.ensures c.turn-2.new.store c.turn-2.result c.turn-2.ensures;
-      some = settle_some c.args.store.now c.below-below.result.number c.args.region c.args.run c.in_order.result.0 c.in_order.result.1 c.children-children.result c.children-children.ensures eight R c.in_order.ensures.order
-          c.turn.new.store c.turn.result c.turn.ensures c.turn-2.new.store c.turn-2.result c.turn-2.ensures;
-    }
+settle-requires t c = record {
+  apart = settle_apart c.args.store.now c.args.level.number c.below-below.result.number c.args.region c.args.run c.in_order.result.0 c.in_order.result.1 c.children-children.result c.below-below.ensures c.children-children.ensures (search rules) c.requires c.in_order.ensures
+      c.turn.new.store c.turn.result c.turn.ensures c.turn-2.new.store c.turn-2.result c.turn-2.ensures;
+  some = settle_some c.args.store.now c.args.level.number c.below-below.result.number c.args.region c.args.run c.in_order.result.0 c.in_order.result.1 c.children-children.result c.below-below.ensures c.children-children.ensures (search rules) c.requires c.in_order.ensures
+      c.turn.new.store c.turn.result c.turn.ensures c.turn-2.new.store c.turn-2.result c.turn-2.ensures;
+}
 
 pub returns : goal.returns
 returns t c =
-    let eight : length c.children-children.result ≡ 8 = search rules in
-    subst (λ m. Moved c.args.store.now m c.args.region (flipped c.args.run (solid_at c.args.store.now.groups.now m c.args.region)) c.settle.new.self c.settle.result) (sym c.below-below.ensures)
-    (turned c.args.store.now c.below-below.result.number c.args.region c.args.run c.in_order.result.0 c.in_order.result.1 c.children-children.result c.children-children.ensures eight
-    (subst (λ m. Ready c.args.store.now m c.args.region c.args.run) c.below-below.ensures c.requires) c.in_order.ensures.order
-    c.turn.new.store c.turn.result c.turn.ensures c.turn-2.new.store c.turn-2.result c.turn-2.ensures c.settle.new.self c.settle.result c.settle.ensures)
+    turned c.args.store.now c.args.level.number c.below-below.result.number c.args.region c.args.run c.in_order.result.0 c.in_order.result.1 c.children-children.result c.below-below.ensures c.children-children.ensures (search rules) c.requires c.in_order.ensures
+    c.turn.new.store c.turn.result c.turn.ensures c.turn-2.new.store c.turn-2.result c.turn-2.ensures c.settle.new.self c.settle.result c.settle.ensures

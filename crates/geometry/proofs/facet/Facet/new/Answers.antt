@@ -1,4 +1,3 @@
-use Rattle.geometry.specs.declared.mesh.Triangle.{Triangle}
 use Rattle.geometry.proofs.Checked.{three_made}
 use Rattle.geometry.proofs.facet.Facet.new.Goals as goal
 

@@ -10,4 +10,4 @@ pub bounds-self-id : goal.bounds-self-id
 bounds-self-id c = own_within c.args.self.now (Split c.args.id) c.requires
 
 pub returns : goal.returns
-returns c = freed_again c.args.self.now _ c.args.id c.from.result c.group-group.result.children c.requires (omega arith) c.from.ensures refl
+returns c = freed_again c.args.self.now _ c.args.id c.from.result c.group-group.result.children c.requires (omega arith) c.from.ensures refl refl refl (omega arith) refl
