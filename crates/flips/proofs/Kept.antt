@@ -1,5 +1,5 @@
 -- What one call of a block keeps, several calls keep.
-use Rattle.std.proofs.Common.{◌≡◌, ℕ, Bool, refl, ◌∙◌}
+use Rattle.std.proofs.Common.{ℕ, Bool, refl, ◌∙◌}
 use Rattle.block.specs.Keeps.{Keeps}
 
 module _ {B : Type 0} {sound : B → Type 0} {ties : B → B → Type 0} {edge : B → ℕ} {fits : B → (ℕ → Bool) → Bool} where

@@ -1,9 +1,8 @@
-use Rattle.std.proofs.Common.{◌≡◌, ℕ, ◌*◌, ◌<◌, Bool, true, false, cond, length, is_ok, Some, None, Err, sym, ap, ◌∙◌, subst, arith}
+use Rattle.std.proofs.Common.{◌≡◌, ℕ, ◌*◌, ◌<◌, Bool, cond, length, is_ok, Some, None, Err, sym, ap, ◌∙◌, subst, arith}
 use Rattle.std.proofs.lemmas.Bool.{cond-false}
 use Rattle.refusals.specs.declared.Refusal.TheVariants.{NoSand}
 use Rattle.block.specs.Drawing.{refusal_of}
 use Rattle.rows.proofs.RunLaws.{runs_longest}
-use Rattle.flips.specs.Flips.{flips_of}
 use Rattle.flips.specs.Drawn.{drawn, all_fit, ChangedWhere}
 use Rattle.flips.proofs.Kept.{kept_same, kept_on}
 use Rattle.flips.proofs.Made.{done_if}

@@ -1,4 +1,4 @@
-use Rattle.std.proofs.Common.{◌≡◌, sym, ap, ◌∙◌, is_ok, Some, None}
+use Rattle.std.proofs.Common.{sym, ap, ◌∙◌, is_ok, Some, None}
 use Rattle.std.proofs.lemmas.Bool.{cond-false}
 use Rattle.refusals.specs.declared.Refusal.TheVariants.{NoSand}
 use Rattle.block.specs.declared.cells.Run.{Run}
@@ -25,7 +25,7 @@ returns-in-Err-clause-refused g c =
     let i = c.loop-made.made in
     let inv = c.loop-made.invariant in
     let told = c.flip.ensures in
-    let not = made_not n F d ws i _ none c.loop-made-test.true cc c.requires.in_box (g.B.Block.drawing c.flip.new.self) c.flip.result
+    let not = made_not n F d ws i _ none c.loop-made-test.true (cc) c.requires.in_box (g.B.Block.drawing c.flip.new.self) c.flip.result
     inv.kept.same_side inv.kept.same_fits (told.refused, told.drawn) inv.drawn (ap is_ok c.in-Err.is) in
     sym (ap refusal_of c.in-Err.is) ∙ not.2 ∙ sym (cond-false (all_fit n F d ws) None (Some NoSand) not.1)
 
@@ -38,7 +38,7 @@ loop-made-preserved g c =
     let i = c.loop-made.made in
     let inv = c.loop-made.invariant in
     let told = c.flip.ensures in
-    let more = made_more n F d ws i _ none c.loop-made-test.true cc c.requires.in_box (g.B.Block.drawing c.flip.new.self) c.flip.result
+    let more = made_more n F d ws i _ none c.loop-made-test.true (cc) c.requires.in_box (g.B.Block.drawing c.flip.new.self) c.flip.result
     inv.kept.same_side inv.kept.same_fits (told.refused, told.drawn) inv.drawn inv.fit (ap is_ok c.in_default.is) in
     record {
       kept = kept_on g.B.Block.ties_on c.args.block.now c.loop-made.block c.flip.new.self inv.kept told.kept;
