@@ -6,7 +6,6 @@ use Rattle.geometry.specs.declared.facet.Facet.{Facet}
 use Rattle.geometry.specs.Range.{triangle_in_range}
 use Rattle.geometry.specs.Closed.{Closed as SidesClose}
 use Rattle.geometry.specs.Read.{triangle_of}
-use Rattle.report.specs.declared.verdict.Flaw.{Flaw}
 use Rattle.report.specs.declared.verdict.Flaw.TheVariants.{Open, Hole, Wild}
 use Rattle.report.specs.declared.verdict.NotKept.{NotKept}
 use Rattle.report.specs.declared.verdict.NotKept.TheVariants.{Flawed, OutOfMemory}
