@@ -45,6 +45,7 @@ impl Axis {
         ensures a { result.a.value ≡ end_of half a_up (first_of self (cell_at c.x c.y c.z)) }
         ensures b { result.b.value ≡ end_of half b_up (second_of self (cell_at c.x c.y c.z)) }
     {
+        // As in `seen`: one generic reading of both would need a definition and lemmas by cases of its own, and is no plainer.
         match self {
             Axis::X => Flat {
                 a: Coordinate::end(c.y, a_up),
