@@ -1,4 +1,4 @@
-use Rattle.std.proofs.Common.{◌≡◌, ℕ, ◌*◌, ◌<◌, Bool, cond, length, is_ok, Some, None, Err, sym, ap, ◌∙◌, subst, arith}
+use Rattle.std.proofs.Common.{◌≡◌, ℕ, ◌*◌, ◌<◌, Bool, false, cond, length, is_ok, Some, None, Err, sym, ap, ◌∙◌, subst, arith}
 use Rattle.std.proofs.lemmas.Bool.{cond-false}
 use Rattle.refusals.specs.declared.Refusal.TheVariants.{NoSand}
 use Rattle.block.specs.Drawing.{refusal_of}
@@ -71,8 +71,8 @@ returns-in-Err-clause-answer g c =
     let told = c.make_flips.ensures.refused in
     let in_box : i < n * n = subst (λ (m : ℕ). i < m) (c.row_count-i-end.ensures ∙ ap (λ m. m * m) c.side-side.ensures) c.loop-i-test.true in
     let cut = row_cut n solid i c.side-side.ensures c.as_slice.ensures.value c.row_flips-flips.ensures in
-    let off = sym (done_if c.make_flips.result _ told) ∙ ap is_ok c.in-Err.is in
-    let full : Some c.in-Err.why ≡ Some NoSand = sym (ap refusal_of c.in-Err.is) ∙ told ∙ cond-false _ None (Some NoSand) off in
+    let off : all_fit (g.B.Block.edge c.loop-i.block) (g.B.Block.fits c.loop-i.block) (g.B.Block.drawing c.loop-i.block) ws ≡ false = sym (done_if c.make_flips.result _ told) ∙ ap is_ok c.in-Err.is in
+    let full : Some c.in-Err.why ≡ Some NoSand = sym (ap refusal_of c.in-Err.is) ∙ told ∙ cond-false (all_fit (g.B.Block.edge c.loop-i.block) (g.B.Block.fits c.loop-i.block) (g.B.Block.drawing c.loop-i.block) ws) None (Some NoSand) off in
     let why : c.in-Err.why ≡ NoSand = cc in
     ap Err why ∙ none_made n solid F d (row_not n solid F d i ws cut inv.kept.same_side inv.kept.same_fits (g.B.Block.drawing c.loop-i.block) inv.drawn in_box off)
 
