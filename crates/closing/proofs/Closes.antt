@@ -1,5 +1,5 @@
 -- What the loose sides say of the triangles, once all are toggled.
-use Rattle.std.proofs.Common.{◌≡◌, ℕ, ◌*◌, ◌≤◌, true, false, cond, ◌&&◌, eqb, List, [], ◌∷◌, length, Decides, Ordering, Less, Equal, Greater, sym, refl, ap, ◌∙◌, arith}
+use Rattle.std.proofs.Common.{◌≡◌, ℕ, ◌*◌, ◌≤◌, true, false, ◌&&◌, ◌||◌, eqb, is_ok, Ok, Err, Result, Some, None, subst, List, [], ◌∷◌, length, Decides, Ordering, Less, Equal, Greater, sym, refl, ap, ◌∙◌, arith}
 use mathlib.Core.Bool.{false≢true}
 use Rattle.std.specs.List.{slice_get}
 use Rattle.std.specs.Ordering.{eq_by_cmp, is_lt, ordering_reverse}
@@ -12,11 +12,11 @@ use Rattle.geometry.specs.declared.mesh.Triangle.{Triangle}
 use Rattle.geometry.specs.Closed as sides
 use Rattle.toggles.specs.Toggled.{has}
 use Rattle.toggles.proofs.Rising.{sorted_none}
-use Rattle.closing.specs.declared.check.Closure.{Closure}
-use Rattle.closing.specs.declared.check.Closure.TheVariants.{Closed, Odd, ShortShelf}
+use Rattle.closing.specs.declared.check.Leak.{Leak}
+use Rattle.closing.specs.declared.check.Leak.TheVariants.{Odd, ShortShelf}
 use Rattle.closing.specs.Order.{point_cmp, side_cmp, point_order, side_order, before}
 use Rattle.closing.specs.Holds.{Holds}
-use Rattle.closing.specs.Means.{Means, told_by}
+use Rattle.closing.specs.Means.{Means}
 use Rattle.closing.proofs.Points.{level_point, not_before_itself}
 use Rattle.closing.proofs.Loose.{joins_back}
 
@@ -49,7 +49,7 @@ closed_from_none ts h a b = even_by ts h a b (point_cmp a b) refl
 pub odd_from_loose : (s : Side) (ks : List Side) (ts : List Triangle) → Holds (s ∷ ks) ts
     → (before s.low s.high ≡ true) × (sides.odd_sides (sides.joins s.low s.high) ts ≡ true)
 odd_from_loose s ks ts h =
-    let there : has (eq_by_cmp side_cmp) (s ∷ ks) s ≡ true = ap (λ z. cond z true (has (eq_by_cmp side_cmp) ks s)) ((eq_by_cmp_equiv side_order).refl s) in
+    let there : has (eq_by_cmp side_cmp) (s ∷ ks) s ≡ true = ap (λ z. z || has (eq_by_cmp side_cmp) ks s) ((eq_by_cmp_equiv side_order).refl s) in
     and_split (before s.low s.high) (sides.odd_sides (sides.joins s.low s.high) ts) (sym (h.exact s) ∙ there)
 
 pub open_from_odd : (s : Side) (ts : List Triangle) → before s.low s.high ≡ true
@@ -66,12 +66,19 @@ empty_closes (s ∷ ks) ts h =
     (λ e. absurd (let z = eqb-true (length (s ∷ ks)) 0 e in omega arith), λ c. absurd (open_from_odd s ts o.0 o.1 c))
 
 -- for who asks for the first of them
-pub told_means : (ks : List Side) (ts : List Triangle) (n : ℕ) → 3 * length ts ≤ n → Holds ks ts → Means ts n (told_by (slice_get ks 0))
-told_means [] ts n l h = (l, closed_from_none ts h)
-told_means (s ∷ ks) ts n l h = let o = odd_from_loose s ks ts h in (l, o.0, o.1)
+pub none_means : (ks : List Side) (ts : List Triangle) (n : ℕ) → 3 * length ts ≤ n → Holds ks ts → slice_get ks 0 ≡ None → Means ts n (Ok tt)
+none_means [] ts n l h e = (l, closed_from_none ts h)
+none_means (s ∷ ks) ts n l h e = cc
 
--- with room for all sides, the answer is `Closed` exactly where they close
-pub closed_answer : (ts : List Triangle) (n : ℕ) (r : Closure) → Means ts n r → 3 * length ts ≤ n → sides.Closed ts → r ≡ Closed
-closed_answer ts n Closed m l c = refl
-closed_answer ts n (Odd s) m l c = absurd (open_from_odd s ts m.1 m.2 c)
-closed_answer ts n ShortShelf m l c = absurd (omega arith)
+pub odd_means : (s : Side) (ks : List Side) (ts : List Triangle) (n : ℕ) → 3 * length ts ≤ n → Holds ks ts → slice_get ks 0 ≡ Some s → Means ts n (Err (Odd s))
+odd_means s [] ts n l h e = cc
+odd_means s (k ∷ ks) ts n l h e =
+    let same : k ≡ s = cc in
+    let o = odd_from_loose k ks ts h in
+    subst (λ x. Means ts n (Err (Odd x))) same (l, o.0, o.1)
+
+-- with room for all sides, the answer is `Ok` exactly where they close
+pub closed_answer : (ts : List Triangle) (n : ℕ) (r : Result (Unit {0}) Leak) → Means ts n r → 3 * length ts ≤ n → sides.Closed ts → is_ok r ≡ true
+closed_answer ts n (Ok done) m l c = refl
+closed_answer ts n (Err (Odd s)) m l c = absurd (open_from_odd s ts m.1 m.2 c)
+closed_answer ts n (Err ShortShelf) m l c = absurd (omega arith)

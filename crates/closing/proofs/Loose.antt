@@ -1,5 +1,5 @@
 -- A list of loose sides after one more side, and after one more triangle.
-use Rattle.std.proofs.Common.{◌≡◌, Bool, true, false, cond, not, ◌&&◌, List, [], ◌∷◌, ◌++◌, is_some, Some, None, Ordering, Less, Equal, Greater, unwrap_or, sym, refl, ap, ◌∙◌, subst}
+use Rattle.std.proofs.Common.{◌≡◌, Bool, true, false, cond, not, ◌&&◌, List, [], ◌∷◌, ◌++◌, is_ok, is_some, Some, None, Ok, Err, OnOk, Result, Ordering, Less, Equal, Greater, unwrap_or, sym, refl, ap, ◌∙◌, subst}
 use mathlib.Core.Bool.{false≢true}
 use Rattle.std.specs.Ordering.{eq_by_cmp, is_lt, ordering_reverse}
 use Rattle.std.proofs.lemmas.Cmp.{eq_by_cmp_equiv}
@@ -128,8 +128,11 @@ module _ (ks ns : List Side) (f : Point → Point → Bool) (h : Lists ks f) whe
   none_by p q Equal o e = lists_level p q (level_point p q o)
   none_by p q Greater o e = absurd (false≢true (ap is_some e))
 
-  pub lists_some : (p q : Point) (s : Side) → Some s ≡ side_between p q → Toggled side_order ks ns s → Lists ns (toggled_at p q f)
-  lists_some p q s = some_by p q s (point_cmp p q) refl
+  -- after a call that toggled the side, if it answered `Ok`
+  pub lists_some : {T E : Type 0} (p q : Point) (s : Side) (r : Result T E) → Some s ≡ side_between p q
+      → (is_ok r ≡ true → Toggled side_order ks ns s) → OnOk r (Lists ns (toggled_at p q f))
+  lists_some p q s (Ok v) e t = some_by p q s (point_cmp p q) refl e (t refl)
+  lists_some p q s (Err d) e t = tt
 
   pub lists_none : (p q : Point) → None ≡ side_between p q → Lists ks (toggled_at p q f)
   lists_none p q = none_by p q (point_cmp p q) refl

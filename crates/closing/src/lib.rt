@@ -4,5 +4,5 @@
 pub mod check;
 pub mod sides;
 
-pub use check::{Closure, check_sides};
+pub use check::{Leak, check_sides};
 pub use sides::toggle_sides;

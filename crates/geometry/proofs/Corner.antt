@@ -13,7 +13,8 @@ use Rattle.geometry.specs.Geometry.{normal_of, edge, plane}
 use Rattle.geometry.specs.Cells.{low, high, at_end, at_corner, sign, beside_side}
 use Rattle.geometry.specs.declared.axis.Axis.{Axis}
 use Rattle.geometry.specs.declared.axis.Axis.TheVariants.{X, Y, Z}
-use Rattle.geometry.specs.Read.{◌·◌, corner_of, first_of, second_of, flat_edge}
+use Rattle.geometry.specs.Numbers.{◌·◌}
+use Rattle.geometry.specs.Read.{corner_of, first_of, second_of, flat_edge}
 
 -- the end of the cell's span where a times it is greatest
 abbrev pub far_end : ℤ → ℤ → ℤ → ℤ

@@ -1,5 +1,5 @@
 -- From the tests of the code to `counts` and `first_crossed`.
-use Rattle.std.proofs.Common.{◌≡◌, ℕ, zero, suc, ◌<◌, ◌≤◌, Bool, true, false, cond, not, ◌&&◌, eqb, [], ◌∷◌, ℤ, pos, negsuc, ◌+ℤ◌, ◌-ℤ◌, ◌*ℤ◌, nat_abs, ◌≤ℤ◌, ◌<ℤ◌, sym, refl, ap, ◌∙◌, subst, true≢false, arith, w32, SFits, of_z}
+use Rattle.std.proofs.Common.{◌≡◌, ℕ, zero, suc, ◌<◌, ◌≤◌, Bool, true, false, cond, not, ◌&&◌, eqb, [], ◌∷◌, ℤ, pos, negsuc, ◌+ℤ◌, ◌-ℤ◌, ◌*ℤ◌, nat_abs, ◌≤ℤ◌, ◌<ℤ◌, sym, refl, ap, ◌∙◌, subst, true≢false, arith, min, w32, w64, SFits, of_z}
 use Rattle.std.proofs.lemmas.Int.{ints, by_lt_z}
 use Rattle.std.specs.Int.{int_div_euclid}
 use lib.Signed.{lt_z, le_z}
@@ -9,17 +9,33 @@ use Rattle.algebra.proofs.Order.{gap, nonneg_of_pos, mul_pos, mul_nonneg, lt_sca
 use Rattle.algebra.proofs.Tests.{le_true, le_false}
 use Rattle.geometry.specs.declared.mesh.Point.{Point}
 use Rattle.geometry.specs.declared.mesh.Triangle.{Triangle}
+use Rattle.geometry.specs.declared.axis.Axis.{Axis}
 use Rattle.geometry.specs.Geometry.{is_zero, normal_of, edge, ahead, counts, covers, plane, crosses}
 use Rattle.geometry.specs.Cells.{cell_at, centre, middle, least, first_crossed, sign, size}
-use Rattle.geometry.specs.Read.{◌·◌, Floor, flat_edge}
+use Rattle.geometry.specs.Numbers.{◌·◌, Floor}
+use Rattle.geometry.specs.Read.{first_of, second_of, flat_edge}
 use Rattle.geometry.proofs.Signs.{inner_up, inner_down, size_is}
 
--- the code's edge is that of the points
-pub edge_is : (a b : Point → ℤ) (u v q : Point) → flat_edge (a u) (b u) (a v) (b v) (a q) (b q) ≡ edge a b u v q
+-- the edge of points is that of their coordinates, seen along an axis
+pub edge_along : (axis : Axis) (u v q : Point)
+    → edge (first_of axis) (second_of axis) u v q
+    ≡ flat_edge (first_of axis u) (second_of axis u) (first_of axis v) (second_of axis v) (first_of axis q) (second_of axis q)
 unfolding flat_edge edge ◌·◌
-edge_is a b u v q = refl
+edge_along axis u v q = refl
 
 -- ---- a side
+
+-- a product with a number below 0 is above 0 where the number is below it
+pub lt_turned : (a k : ℤ) → k <ℤ pos 0 → lt_z (pos 0) (a *ℤ k) ≡ lt_z a (pos 0)
+lt_turned a k h =
+    ap (lt_z (pos 0)) (ring (a ∷ k ∷ []) (var 0 ⊗ var 1) ((num (pos 0) ⊖ var 0) ⊗ (num (pos 0) ⊖ var 1)) refl)
+    ∙ lt_scaled (pos 0 -ℤ a) (pos 0 -ℤ k) (over k h) ∙ turn a
+  where
+    over : (k : ℤ) → k <ℤ pos 0 → pos 0 <ℤ (pos 0 -ℤ k)
+    over k h = omega (arith, ints)
+
+    turn : (a : ℤ) → lt_z (pos 0) (pos 0 -ℤ a) ≡ lt_z a (pos 0)
+    turn a = grind (arith, ints)
 
 module _ (p a b : Point) where
   abbrev e : ℤ
@@ -42,15 +58,9 @@ module _ (p a b : Point) where
 
   -- the side goes down past the height
   pub downward : le_z a.z p.z ≡ false → le_z b.z p.z ≡ true → lt_z e (pos 0) ≡ counts p a b
-  downward h k =
-      turn e ∙ sym (lt_scaled (pos 0 -ℤ e) (a.z -ℤ b.z) (fall a.z b.z p.z h k))
-      ∙ ap (lt_z (pos 0)) (ring (e ∷ a.z ∷ b.z ∷ []) ((num (pos 0) ⊖ var 0) ⊗ (var 1 ⊖ var 2)) (var 0 ⊗ (var 2 ⊖ var 1)) refl)
-      ∙ sym (ap (λ x. (x ⊻ le_z b.z p.z) && lt_z (pos 0) (ahead p a b)) h ∙ ap (λ x. x && lt_z (pos 0) (ahead p a b)) k)
+  downward h k = sym (lt_turned e (b.z -ℤ a.z) (fall a.z b.z p.z h k)) ∙ sym (ap (λ x. (x ⊻ le_z b.z p.z) && lt_z (pos 0) (ahead p a b)) h ∙ ap (λ x. x && lt_z (pos 0) (ahead p a b)) k)
     where
-      turn : (n : ℤ) → lt_z n (pos 0) ≡ lt_z (pos 0) (pos 0 -ℤ n)
-      turn n = grind (arith, ints)
-
-      fall : (u v z : ℤ) → le_z u z ≡ false → le_z v z ≡ true → pos 0 <ℤ (u -ℤ v)
+      fall : (u v z : ℤ) → le_z u z ≡ false → le_z v z ≡ true → (v -ℤ u) <ℤ pos 0
       fall u v z h k = grind (arith, ints)
 
 -- ---- the first crossed cell
@@ -76,6 +86,11 @@ floors (pos a) (pos d) h =
 floors (negsuc a) (pos d) h =
     let s : 0 < d = omega (arith, ints) in record { low = omega (arith, ints); high = omega (arith, ints) }
 floors a (negsuc d) h = absurd (omega (arith, ints))
+
+pub floor_fits : (a d : ℤ) → pos 0 <ℤ d → SFits w64 a → SFits w64 (int_div_euclid a d)
+floor_fits (pos a) (pos d) h f = let s : 0 < d = omega (arith, ints) in omega (arith, ints)
+floor_fits (negsuc a) (pos d) h f = let s : 0 < d = omega (arith, ints) in omega (arith, ints)
+floor_fits a (negsuc d) h f = absurd (omega (arith, ints))
 
 -- a + s k is not negative from k = −q on, where q is a / s rounded down
 module _ (a s q : ℤ) (s_some : pos 0 <ℤ s) (fl : Floor a s q) where
@@ -112,23 +127,21 @@ module _ (a s q : ℤ) (n : ℕ) (s_some : pos 0 <ℤ s) (fl : Floor a s q) wher
   yes_from : (k : ℕ) → (pos 0 -ℤ q) ≤ℤ pos k → test k ≡ true
   yes_from k h = le_true _ _ (from_on a s q s_some fl (pos k) h)
 
-  pub first_at_once : (pos 0 -ℤ q) ≤ℤ pos 0 → 0 ≡ least test n
-  first_at_once h = least_is test n 0 (omega arith) (λ k l. absurd (omega arith)) (λ l. yes_from 0 h)
-
-  pub first_within : (r : ℕ) → pos r ≡ pos 0 -ℤ q → r < n → r ≡ least test n
-  first_within r e l = least_is test n r (omega arith) (λ k m. no k (below k r q e m)) (λ _. yes_from r (there r q e))
+  pub first_at_once : pos 0 ≤ℤ q → 0 ≡ least test n
+  first_at_once h = least_is test n 0 (omega arith) (λ k l. absurd (omega arith)) (λ l. yes_from 0 (turn q h))
     where
-      below : (k r : ℕ) (q : ℤ) → pos r ≡ pos 0 -ℤ q → k < r → pos k <ℤ (pos 0 -ℤ q)
-      below k r q e m = omega (arith, ints)
+      turn : (q : ℤ) → pos 0 ≤ℤ q → (pos 0 -ℤ q) ≤ℤ pos 0
+      turn q h = omega (arith, ints)
 
-      there : (r : ℕ) (q : ℤ) → pos r ≡ pos 0 -ℤ q → (pos 0 -ℤ q) ≤ℤ pos r
-      there r q e = omega (arith, ints)
-
-  pub first_beyond : (r : ℕ) → pos r ≡ pos 0 -ℤ q → n ≤ r → n ≡ least test n
-  first_beyond r e l = least_is test n n (omega arith) (λ k m. no k (below k r q e (omega arith))) (λ m. absurd (omega arith))
+  pub first_clipped : q <ℤ pos 0 → min n (nat_abs q) ≡ least test n
+  first_clipped h =
+      least_is test n (min n (nat_abs q)) (omega arith) (λ k m. no k (below q k h (omega arith))) (λ m. yes_from _ (there q n h m))
     where
-      below : (k r : ℕ) (q : ℤ) → pos r ≡ pos 0 -ℤ q → k < r → pos k <ℤ (pos 0 -ℤ q)
-      below k r q e m = omega (arith, ints)
+      below : (q : ℤ) (k : ℕ) → q <ℤ pos 0 → k < nat_abs q → pos k <ℤ (pos 0 -ℤ q)
+      below q k h m = omega (arith, ints)
+
+      there : (q : ℤ) (n : ℕ) → q <ℤ pos 0 → min n (nat_abs q) < n → (pos 0 -ℤ q) ≤ℤ pos (min n (nat_abs q))
+      there q n h m = omega (arith, ints)
 
 -- ---- along a row
 

@@ -1,6 +1,6 @@
+pub mod Casts
 pub mod Bounds
 pub mod Signs
-pub mod Ranges
 pub mod Crossing
 pub mod Least
 pub mod Extents

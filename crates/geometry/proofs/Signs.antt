@@ -1,5 +1,5 @@
 -- What the sign of a number does in a test.
-use Rattle.std.proofs.Common.{◌≡◌, ℕ, ◌*◌, cond, ◌||◌, leb, ℤ, pos, negsuc, ◌-ℤ◌, ◌*ℤ◌, nat_abs, ◌≤ℤ◌, ◌<ℤ◌, sym, ap, ◌∙◌, arith}
+use Rattle.std.proofs.Common.{◌≡◌, cond, ◌||◌, ℤ, pos, negsuc, ◌-ℤ◌, ◌*ℤ◌, nat_abs, ◌≤ℤ◌, ◌<ℤ◌, sym, ap, ◌∙◌, arith}
 use Rattle.std.specs.Int.{int_min, int_max}
 use Rattle.std.proofs.lemmas.Int.{ints, by_lt_z}
 use lib.Signed.{le_z}
@@ -24,26 +24,14 @@ inner_down way v h = rw (sign_down way h) (one v)
     one : (v : ℤ) → le_z v (pos 0) ≡ le_z (pos 0) (negsuc 0 *ℤ v)
     one v = grind (arith, ints)
 
-pub rises_up : (way a b : ℤ) → pos 0 ≤ℤ way → le_z a b ≡ le_z (pos 0) (sign way *ℤ (b -ℤ a))
-rises_up way a b h = gap a b ∙ inner_up way (b -ℤ a) h
-  where
-    gap : (a b : ℤ) → le_z a b ≡ le_z (pos 0) (b -ℤ a)
-    gap a b = grind (arith, ints)
-
-pub rises_down : (way a b : ℤ) → way <ℤ pos 0 → le_z b a ≡ le_z (pos 0) (sign way *ℤ (b -ℤ a))
-rises_down way a b h = gap a b ∙ inner_down way (b -ℤ a) h
-  where
-    gap : (a b : ℤ) → le_z b a ≡ le_z (b -ℤ a) (pos 0)
-    gap a b = grind (arith, ints)
-
 -- a number times its sign is its size
-pub size_up : (a : ℤ) → pos 0 ≤ℤ a → a ≡ size a
+size_up : (a : ℤ) → pos 0 ≤ℤ a → a ≡ size a
 size_up a h = one a ∙ ap (λ s. s *ℤ a) (sym (sign_up a h))
   where
     one : (a : ℤ) → a ≡ pos 1 *ℤ a
     one a = omega (arith, ints)
 
-pub size_down : (a : ℤ) → a <ℤ pos 0 → pos 0 -ℤ a ≡ size a
+size_down : (a : ℤ) → a <ℤ pos 0 → pos 0 -ℤ a ≡ size a
 size_down a h = one a ∙ ap (λ s. s *ℤ a) (sym (sign_down a h))
   where
     one : (a : ℤ) → pos 0 -ℤ a ≡ negsuc 0 *ℤ a
@@ -58,8 +46,12 @@ size_is a = by_lt_z a (pos 0) (λ h. down a h ∙ size_down a h) (λ h. up a h �
     up : (a : ℤ) → pos 0 ≤ℤ a → pos (nat_abs a) ≡ a
     up a h = omega (arith, ints)
 
-pub minus : (a : ℤ) → pos 0 -ℤ a ≡ negsuc 0 *ℤ a
-minus a = omega (arith, ints)
+-- a negative sign turns a number
+pub turned : (n v : ℤ) → n <ℤ pos 0 → sign n *ℤ v ≡ pos 0 -ℤ v
+turned n v h = rw (sign_down n h) (minus v)
+  where
+    minus : (v : ℤ) → negsuc 0 *ℤ v ≡ pos 0 -ℤ v
+    minus v = omega (arith, ints)
 
 -- ---- the least and the greatest of three
 
@@ -74,10 +66,3 @@ greatest_above a b c h = two (int_max a b) c ∙ ap (λ x. x || le_z h c) (two a
   where
     two : (a b : ℤ) → le_z h (int_max a b) ≡ (le_z h a || le_z h b)
     two a b = grind (arith, ints)
-
--- sizes are compared as the code has them
-pub close_is : (h : ℕ) (v n : ℤ) → leb (nat_abs v) (h * nat_abs n) ≡ le_z (size v) (pos h *ℤ size n)
-close_is h v n = there (nat_abs v) h (nat_abs n) ∙ ap (λ a. le_z a (pos h *ℤ pos (nat_abs n))) (size_is v) ∙ ap (λ b. le_z (size v) (pos h *ℤ b)) (size_is n)
-  where
-    there : (a h b : ℕ) → leb a (h * b) ≡ le_z (pos a) (pos h *ℤ pos b)
-    there a h b = grind (arith, ints)

@@ -1,6 +1,6 @@
 -- The cells of the grid against triangles. A cell k is given by three whole numbers, as a point is; h is half a cell's width, so that
 -- the cell is the closed box from 2h·k to 2h·k + 2h on each axis.
-use Rattle.std.specs.Prelude.{ℕ, zero, suc, Bool, cond, not, ◌&&◌, ◌||◌, ℤ, pos, negsuc, ◌+ℤ◌, ◌*ℤ◌, int_le}
+use Rattle.std.specs.Prelude.{ℕ, zero, suc, Bool, if◌then◌else◌, not, ◌&&◌, ◌||◌, ℤ, pos, negsuc, ◌+ℤ◌, ◌*ℤ◌, int_le}
 use Rattle.geometry.specs.declared.mesh.Point.{Point}
 use Rattle.geometry.specs.declared.mesh.Triangle.{Triangle}
 use Rattle.geometry.specs.Geometry.{is_zero, normal_of, edge, plane, crosses}
@@ -25,7 +25,7 @@ centre h k = record { x = middle h k.x; y = middle h k.y; z = middle h k.z }
 -- the least k below n at which f holds, or n
 abbrev pub least : (ℕ → Bool) → ℕ → ℕ
 least f zero = zero
-least f (suc n) = cond (f 0) 0 (suc (least (λ k. f (suc k)) n))
+least f (suc n) = if f 0 then 0 else suc (least (λ k. f (suc k)) n)
 
 -- of the n cells of the row (y, z), the first at or before whose centre the triangle crosses, or n
 unfoldable pub first_crossed : ℤ → ℕ → ℕ → ℕ → Triangle → ℕ
@@ -35,7 +35,7 @@ first_crossed h y z n t = least (λ x. crosses (centre h (cell_at x y z)) t) n
 
 -- 1, or −1 of a negative number
 abbrev pub sign : ℤ → ℤ
-sign a = cond (int_le (pos 0) a) (pos 1) (negsuc 0)
+sign a = if int_le (pos 0) a then pos 1 else negsuc 0
 
 -- at one end or the other of the cell's span
 abbrev pub at_end : ℤ → ℤ → (ℤ → Bool) → Bool
@@ -86,12 +86,17 @@ size a = sign a *ℤ a
 abbrev pub within_side : (Point → ℤ) → (Point → ℤ) → ℤ → Point → Point → Point → Bool
 within_side a b n u v q = int_le (pos 0) (sign n *ℤ edge a b u v q)
 
--- the line through q along the third axis meets the closed triangle at most h from q; n is the normal's component along that axis
+-- the line through q along the third axis meets the closed triangle, which does not lie along it; n is the normal's component along that axis
+abbrev pub met : (Point → ℤ) → (Point → ℤ) → ℤ → Point → Triangle → Bool
+met a b n q t = not (is_zero n) && within_side a b n t.v0 t.v1 q && within_side a b n t.v1 t.v2 q && within_side a b n t.v2 t.v0 q
+
+-- it meets the triangle's plane at most h from q
+abbrev pub close : ℤ → ℤ → Point → Triangle → Bool
+close n h q t = int_le (size (plane q t)) (h *ℤ size n)
+
+-- it meets the closed triangle at most h from q
 abbrev pub near : (Point → ℤ) → (Point → ℤ) → ℤ → ℤ → Point → Triangle → Bool
-near a b n h q t =
-    not (is_zero n)
-    && within_side a b n t.v0 t.v1 q && within_side a b n t.v1 t.v2 q && within_side a b n t.v2 t.v0 q
-    && int_le (size (plane q t)) (h *ℤ size n)
+near a b n h q t = met a b n q t && close n h q t
 
 -- the triangle makes the cell thin
 unfoldable pub thin : ℤ → Point → Triangle → Bool

@@ -1,34 +1,22 @@
 -- What the code's values stand for, and its one width.
-use Rattle.std.specs.Prelude.{Bool, cond, ℤ, pos, ◌+ℤ◌, ◌-ℤ◌, ◌*ℤ◌, ◌≤ℤ◌, ◌<ℤ◌}
+use Rattle.std.specs.Prelude.{Bool, if◌then◌else◌, ℤ, pos, ◌-ℤ◌}
 use Rattle.geometry.specs.declared.mesh.Point.{Point}
 use Rattle.geometry.specs.declared.mesh.Triangle.{Triangle}
-use Rattle.geometry.specs.declared.bounded.Bounded.{Bounded}
 use Rattle.geometry.specs.declared.facet.Facet.{Facet}
 use Rattle.geometry.specs.declared.axis.Axis.{Axis}
 use Rattle.geometry.specs.declared.axis.Axis.TheVariants.{X, Y, Z}
 use Rattle.geometry.specs.Cells.{low, high}
+use Rattle.geometry.specs.Numbers.{◌·◌}
+use Rattle.geometry.specs.Points.{point_of}
 
 -- half the width of a cell, the code's HALF_WIDTH; everything else takes it as a parameter
 abbrev pub half : ℤ
 half = pos 8
 
-abbrev pub point_of : Bounded → Point
-point_of b = b.point
-
 abbrev pub triangle_of : Facet → Triangle
 triangle_of f = record { v0 = point_of f.v0; v1 = point_of f.v1; v2 = point_of f.v2 }
 
 -- ---- words of the code on the way
-
--- the product, shut, so that a sum of products is linear in them
-infixl 7 ◌·◌
-unfoldable pub ◌·◌ : ℤ → ℤ → ℤ
-a · b = a *ℤ b
-
--- q is a / d rounded down
-pub record Floor (a d q : ℤ) : Type 0 where
-  pub low : (q *ℤ d) ≤ℤ a
-  pub high : a <ℤ (q *ℤ d +ℤ d)
 
 -- the coordinate on an axis, and the two across it
 abbrev pub along : Axis → Point → ℤ
@@ -53,7 +41,7 @@ flat_edge ua ub va vb qa qb = (va -ℤ ua) · (qb -ℤ ub) -ℤ (vb -ℤ ub) · 
 -- the corner of the cell k at the high end of the axes whose flag is set
 abbrev pub corner_of : ℤ → Point → Bool → Bool → Bool → Point
 corner_of h k x y z = record {
-  x = cond x (high h k.x) (low h k.x);
-  y = cond y (high h k.y) (low h k.y);
-  z = cond z (high h k.z) (low h k.z);
+  x = if x then high h k.x else low h k.x;
+  y = if y then high h k.y else low h k.y;
+  z = if z then high h k.z else low h k.z;
 }

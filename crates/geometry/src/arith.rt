@@ -1,51 +1,80 @@
-//! The only sums and products of coordinates, each with a bound that shows that nothing overflows.
+//! The only sums and products of coordinates: each has a type of its own, whose bound shows that nothing overflows.
 
-ghost use Rattle.std.specs.Prelude.{◌≡◌, ◌^◌, ◌≤◌, pos, negsuc, ◌+ℤ◌, ◌-ℤ◌, ◌≤ℤ◌, unsigned_abs};
-ghost use Rattle.geometry.specs.Read.{◌·◌};
+ghost use Rattle.std.specs.Prelude.{◌≡◌, ◌^◌, ◌≤◌, ◌+ℤ◌, ◌-ℤ◌, unsigned_abs};
+ghost use Rattle.geometry.specs.Numbers.{◌·◌};
+
+use crate::bounded::Coordinate;
+
+/// The difference of two coordinates in range.
+#[derive(Clone, Copy, Debug, PartialEq, Eq)]
+pub(crate) struct Gap {
+    value: i64,
+    ghost small: { unsigned_abs value ≤ 2 ^ 14 },
+}
+
+/// The gaps from one point in range to another on the three axes.
+#[derive(Clone, Copy, Debug, PartialEq, Eq)]
+pub(crate) struct Gaps {
+    pub(crate) x: Gap,
+    pub(crate) y: Gap,
+    pub(crate) z: Gap,
+}
+
+/// The area that two sides span, seen along an axis; its sign tells which way the second turns from the first.
+#[derive(Clone, Copy, Debug, PartialEq, Eq)]
+pub(crate) struct Area {
+    pub(crate) value: i32,
+    ghost small: { unsigned_abs value ≤ 2 ^ 29 },
+}
+
+/// A normal: the areas that are seen along x, y and z.
+#[derive(Clone, Copy, Debug, PartialEq, Eq)]
+pub(crate) struct Normal {
+    pub(crate) x: Area,
+    pub(crate) y: Area,
+    pub(crate) z: Area,
+}
 
 /// a − b
-pub(crate) fn diff(a: i32, b: i32) -> i64
-    requires a { (negsuc 8191 ≤ℤ a) × (a ≤ℤ pos 8191) }
-    requires b { (negsuc 8191 ≤ℤ b) × (b ≤ℤ pos 8191) }
-    ensures value { result ≡ a -ℤ b }
-    ensures small { unsigned_abs result ≤ 2 ^ 14 }
+pub(crate) fn diff(a: Coordinate, b: Coordinate) -> Gap
+    ensures { result.value ≡ a.value -ℤ b.value }
 {
-    a as i64 - b as i64
+    Gap {
+        value: i64::from(a.value) - i64::from(b.value),
+    }
 }
 
 /// a b
-fn times(a: i64, b: i64) -> i64
-    requires { (unsigned_abs a ≤ 2 ^ 14) × (unsigned_abs b ≤ 2 ^ 14) }
-    ensures value { result ≡ a · b }
+#[tactic(auto, using(crate::proofs::Casts::casts, crate::proofs::Bounds::gaps_product, crate::proofs::Bounds::gaps_within))]
+fn times(a: Gap, b: Gap) -> i64
+    ensures value { result ≡ a.value · b.value }
     ensures small { unsigned_abs result ≤ 2 ^ 28 }
 {
-    a * b
+    a.value * b.value
 }
 
 /// a d − b c
-pub(crate) fn det(a: i64, b: i64, c: i64, d: i64) -> i64
-    requires { (unsigned_abs a ≤ 2 ^ 14) × ((unsigned_abs b ≤ 2 ^ 14) × ((unsigned_abs c ≤ 2 ^ 14) × (unsigned_abs d ≤ 2 ^ 14))) }
-    ensures value { result ≡ a · d -ℤ b · c }
-    ensures small { unsigned_abs result ≤ 2 ^ 29 }
+pub(crate) fn det(a: Gap, b: Gap, c: Gap, d: Gap) -> Area
+    ensures { result.value ≡ a.value · d.value -ℤ b.value · c.value }
 {
-    times(a, d) - times(b, c)
+    Area {
+        value: (times(a, d) - times(b, c)) as i32,
+    }
 }
 
 /// n d
-fn scaled(n: i64, d: i64) -> i64
-    requires { (unsigned_abs n ≤ 2 ^ 29) × (unsigned_abs d ≤ 2 ^ 14) }
-    ensures value { result ≡ n · d }
+#[tactic(auto, using(crate::proofs::Casts::casts, crate::proofs::Bounds::scaled_product, crate::proofs::Bounds::scaled_within))]
+fn scaled(n: Area, d: Gap) -> i64
+    ensures value { result ≡ n.value · d.value }
     ensures small { unsigned_abs result ≤ 2 ^ 43 }
 {
-    n * d
+    i64::from(n.value) * d.value
 }
 
-/// a x + b y + c z
-pub(crate) fn dot(a: i32, b: i32, c: i32, x: i64, y: i64, z: i64) -> i64
-    requires n { (unsigned_abs a ≤ 2 ^ 29) × ((unsigned_abs b ≤ 2 ^ 29) × (unsigned_abs c ≤ 2 ^ 29)) }
-    requires d { (unsigned_abs x ≤ 2 ^ 14) × ((unsigned_abs y ≤ 2 ^ 14) × (unsigned_abs z ≤ 2 ^ 14)) }
-    ensures value { result ≡ a · x +ℤ b · y +ℤ c · z }
+/// n · d
+pub(crate) fn dot(n: Normal, d: Gaps) -> i64
+    ensures value { result ≡ n.x.value · d.x.value +ℤ n.y.value · d.y.value +ℤ n.z.value · d.z.value }
     ensures small { unsigned_abs result ≤ 2 ^ 45 }
 {
-    scaled(a as i64, x) + scaled(b as i64, y) + scaled(c as i64, z)
+    scaled(n.x, d.x) + scaled(n.y, d.y) + scaled(n.z, d.z)
 }

@@ -1,10 +1,10 @@
 //! What is seen along an axis: the other two coordinates.
 
-ghost use Rattle.std.specs.Prelude.{pos, negsuc, ◌≤ℤ◌};
+use crate::bounded::Coordinate;
 
 pub(crate) mod seen;
 
-#[derive(Clone, Copy)]
+#[derive(Clone, Copy, Debug, PartialEq, Eq)]
 pub enum Axis {
     X,
     Y,
@@ -12,10 +12,15 @@ pub enum Axis {
 }
 
 /// A point in range, seen along an axis: y and z along x, z and x along y, x and y along z.
-#[derive(Clone, Copy)]
+#[derive(Clone, Copy, Debug, PartialEq, Eq)]
 pub(crate) struct Flat {
-    pub(crate) a: i32,
-    pub(crate) b: i32,
-    ghost a_in_range: { (negsuc 8191 ≤ℤ a) × (a ≤ℤ pos 8191) },
-    ghost b_in_range: { (negsuc 8191 ≤ℤ b) × (b ≤ℤ pos 8191) },
+    pub(crate) a: Coordinate,
+    pub(crate) b: Coordinate,
+}
+
+/// A triangle seen along an axis. `way` is its normal's component along the axis; the sign tells which side of a line is the inner one.
+#[derive(Clone, Copy, Debug, PartialEq, Eq)]
+pub(crate) struct View {
+    pub(crate) axis: Axis,
+    pub(crate) way: i32,
 }

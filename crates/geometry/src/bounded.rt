@@ -1,8 +1,6 @@
-//! Points in range.
+//! Coordinates and points in range.
 
 ghost use Rattle.std.specs.Prelude.{pos, negsuc, ◌≤ℤ◌};
-
-use crate::mesh::Point;
 
 pub(crate) mod make;
 
@@ -11,11 +9,17 @@ pub const LEAST: i32 = -8192;
 
 pub const GREATEST: i32 = 8191;
 
-/// A point whose coordinates are all in range, from −8,192 to 8,191.
-#[derive(Clone, Copy)]
+/// A coordinate in range, from −8,192 to 8,191.
+#[derive(Clone, Copy, Debug, PartialEq, Eq)]
+pub(crate) struct Coordinate {
+    pub(crate) value: i32,
+    ghost in_range: { (negsuc 8191 ≤ℤ value) × (value ≤ℤ pos 8191) },
+}
+
+/// A point whose coordinates are all in range.
+#[derive(Clone, Copy, Debug, PartialEq, Eq)]
 pub struct Bounded {
-    pub(crate) point: Point,
-    ghost x_in_range: { (negsuc 8191 ≤ℤ point.x) × (point.x ≤ℤ pos 8191) },
-    ghost y_in_range: { (negsuc 8191 ≤ℤ point.y) × (point.y ≤ℤ pos 8191) },
-    ghost z_in_range: { (negsuc 8191 ≤ℤ point.z) × (point.z ≤ℤ pos 8191) },
+    pub(crate) x: Coordinate,
+    pub(crate) y: Coordinate,
+    pub(crate) z: Coordinate,
 }

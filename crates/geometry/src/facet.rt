@@ -1,10 +1,11 @@
 //! Triangles in range.
 
-ghost use Rattle.std.specs.Prelude.{◌≡◌, ◌^◌, ◌≤◌, unsigned_abs};
+ghost use Rattle.std.specs.Prelude.{◌≡◌};
 ghost use Rattle.geometry.specs.Geometry.{normal_of};
+ghost use Rattle.geometry.specs.Points.{point_of, normal_point};
 
+use crate::arith::Normal;
 use crate::bounded::Bounded;
-use crate::mesh::Point;
 
 mod crossing;
 pub mod extent;
@@ -12,12 +13,11 @@ mod make;
 mod skins;
 
 /// A triangle whose coordinates are all in range, with its normal, which is worked out once.
-#[derive(Clone, Copy)]
+#[derive(Clone, Copy, Debug, PartialEq, Eq)]
 pub struct Facet {
     v0: Bounded,
     v1: Bounded,
     v2: Bounded,
-    normal: Point,
-    ghost is_normal: { normal ≡ normal_of (record { v0 = v0.point; v1 = v1.point; v2 = v2.point }) },
-    ghost small: { (unsigned_abs normal.x ≤ 2 ^ 29) × (unsigned_abs normal.y ≤ 2 ^ 29) × (unsigned_abs normal.z ≤ 2 ^ 29) },
+    normal: Normal,
+    ghost is_normal: { normal_point normal ≡ normal_of (record { v0 = point_of v0; v1 = point_of v1; v2 = point_of v2 }) },
 }

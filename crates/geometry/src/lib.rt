@@ -1,6 +1,6 @@
 //! Triangles with whole-number corners against the cells of a box: exact, in integers, with nothing rounded.
 //! Nothing here knows how a drawing is stored.
-#![tactic(auto)]
+#![tactic(auto, using(crate::proofs::Casts::casts))]
 
 mod arith;
 mod axis;

@@ -2,8 +2,8 @@
 use Rattle.std.proofs.Common.{◌≡◌, ℕ, zero, suc, ◌+◌, ◌-◌, ◌*◌, ◌/◌, ◌%◌, ◌^◌, ◌<◌, ◌≤◌, min, false, eqb, ltb, leb, sym, refl, ap, ◌∙◌, ⊎_elim, arith, pow_mono}
 use native.Mathlib.Nat.{pow-succ'}
 use Rattle.std.proofs.lemmas.Bool.{cond-true, cond-false, lt-ltb, le-ltb, le-leb, lt-leb, eq-eqb, ne_eqb, cases_eq, cases_lt, and_left, and_right}
-use Rattle.octree.specs.declared.cells.Cell.{Cell}
-use Rattle.octree.specs.declared.cells.Run.{Run}
+use Rattle.block.specs.declared.cells.Cell.{Cell}
+use Rattle.block.specs.declared.cells.Run.{Run}
 use Rattle.octree.specs.Regions.{width, plus, start_of}
 use Rattle.octree.specs.Trees.{upper, which_child, minus}
 use Rattle.octree.specs.OnTheWay.{Inside, in_run, Lies, run_in, row_child}
@@ -138,8 +138,8 @@ module _ (h : ℕ) (w : Run) where
       let k = row_child h w x in
       let ey = eqb_shift (start_of h k).y a.y w.y (row_start x).0 in
       let ez = eqb_shift (start_of h k).z a.z w.z (row_start x).1 in
-      let el = leb_shift (start_of h k).x a.x w.from in
-      let er = ltb_shift h (start_of h k).x a.x w.to m.0 in
+      let el = leb_shift (start_of h k).x a.x w.start in
+      let er = ltb_shift h (start_of h k).x a.x w.end m.0 in
       cc
 
   -- and a child that the row does not go through has none

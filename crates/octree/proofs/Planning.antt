@@ -3,7 +3,7 @@ use Rattle.std.proofs.Common.{◌≡◌, ℕ, suc, ◌+◌, ◌<◌, ◌≤◌, 
 use Rattle.std.proofs.lemmas.List.{get_or-set_same, get_or-set_other, length-set}
 use Rattle.std.proofs.lemmas.Bool.{cond-false, cases_eq}
 use Rattle.std.proofs.lemmas.Bool.Decides.{nat_tests}
-use Rattle.octree.specs.declared.cells.Cell.{Cell}
+use Rattle.block.specs.declared.cells.Cell.{Cell}
 use Rattle.octree.specs.declared.cells.Change.{Change}
 use Rattle.octree.specs.declared.cells.Child.{Child}
 use Rattle.octree.specs.declared.cells.Child.TheVariants.{Empty}
@@ -11,10 +11,10 @@ use Rattle.octree.specs.declared.cells.Group.{Group}
 use Rattle.octree.specs.declared.cells.Kind.{Kind}
 use Rattle.octree.specs.declared.cells.Kind.TheVariants.{AllEmpty, AllSolid, Mixed}
 use Rattle.octree.specs.declared.cells.Part.{Part}
-use Rattle.octree.specs.declared.cells.Run.{Run}
+use Rattle.block.specs.declared.cells.Run.{Run}
 use Rattle.octree.specs.Regions.{width, origin, plus, start_of, need_of}
 use Rattle.octree.specs.Trees.{children_of, child_at, solid_at}
-use Rattle.octree.specs.OnTheWay.{in_run, flipped, Lies, run_in, row_child, part_at, kind_of, blend, wants, Shows, Tight, Planned, Halves, Ordered}
+use Rattle.octree.specs.OnTheWay.{in_run, flipped, Lies, run_in, row_child, IsPartAt, kind_of, blend, wants, Shows, Tight, Planned, Halves, Ordered}
 use Rattle.octree.proofs.Eights.{sum8_two}
 use Rattle.octree.proofs.Places.{width_pos, child_below, run_part, run_none, rows_differ, part_lies}
 use Rattle.octree.proofs.NeedLaws.{Agree, need_agree, shows_agree, Parts, need_split, shows_wants, blend_shows}
@@ -39,13 +39,13 @@ module _ (n : ℕ) (w : Run) (p : Cell → Bool) (q : ℕ → Cell → Bool) (h 
 -- ---- plans
 
 -- a run with no cell
-run_empty : (w : Run) → w.to ≤ w.from → (c : Cell) → in_run w c ≡ false
+run_empty : (w : Run) → w.end ≤ w.start → (c : Cell) → in_run w c ≡ false
 run_empty w l c = grind (arith, nat_tests)
 
-pub flip_empty : (w : Run) (p : Cell → Bool) → w.to ≤ w.from → (c : Cell) → p c ≡ flipped w p c
+pub flip_empty : (w : Run) (p : Cell → Bool) → w.end ≤ w.start → (c : Cell) → p c ≡ flipped w p c
 flip_empty w p l c = sym (cond-false (in_run w c) (not (p c)) (p c) (run_empty w l c))
 
-pub plan_none : (gs : List Group) (n : ℕ) (r : Child) (w : Run) (k : Kind) → Tight gs n r → w.to ≤ w.from → k ≡ kind_of r → Planned gs n r w (record { kind = k; before = 0; after = 0 })
+pub plan_none : (gs : List Group) (n : ℕ) (r : Child) (w : Run) (k : Kind) → Tight gs n r → w.end ≤ w.start → k ≡ kind_of r → Planned gs n r w (record { kind = k; before = 0; after = 0 })
 plan_none gs n r w k t l e =
     let same : Agree n (solid_at gs n r) (flipped w (solid_at gs n r)) = λ c m. flip_empty w (solid_at gs n r) l c in
     record {
@@ -136,8 +136,11 @@ module _ (gs : List Group) (n : ℕ) (r : Child) (w : Run) where
           }
 
 -- the same by what the code has of it
-pub part_planned : (gs : List Group) (n : ℕ) (r : Child) (w : Run) (x : ℕ) (s : Part) (cs : List Child) (p : Change) → s ≡ part_at (width n) w x → cs ≡ children_of gs r → Planned gs n (get_or cs s.child Empty) s.run p → Planned gs n (child_at gs r (row_child (width n) w x)) (run_in (width n) w (row_child (width n) w x)) p
-part_planned gs n r w x s cs p es ec P = subst (λ (y : Part). Planned gs n (child_at gs r y.child) y.run p) es (subst (λ (ds : List Child). Planned gs n (get_or ds s.child Empty) s.run p) ec P)
+pub part_planned : (gs : List Group) (n : ℕ) (r : Child) (w : Run) (x : ℕ) (s : Part) (cs : List Child) (p : Change) → IsPartAt (width n) w x s → cs ≡ children_of gs r → Planned gs n (get_or cs s.child Empty) s.run p → Planned gs n (child_at gs r (row_child (width n) w x)) (run_in (width n) w (row_child (width n) w x)) p
+part_planned gs n r w x s cs p es ec P =
+    subst (λ k. Planned gs n (child_at gs r k) (run_in (width n) w (row_child (width n) w x)) p) es.child
+    (subst (λ (z : Run). Planned gs n (child_at gs r s.child) z p) es.run
+    (subst (λ (ds : List Child). Planned gs n (get_or ds s.child Empty) s.run p) ec P))
 
 pub plan_step : (gs : List Group) (n lv : ℕ) (r : Child) (w : Run) (s u : Part) (cs : List Child) (p q : Change) (ks : List Kind) (k : Kind) (a b : ℕ)
     → lv ≡ suc n → Tight gs lv r → Halves (width n) w s u → cs ≡ children_of gs r → length ks ≡ 8 → ((j : ℕ) → j < 8 → get_or ks j AllEmpty ≡ kind_of (get_or cs j Empty))
@@ -147,14 +150,14 @@ pub plan_step : (gs : List Group) (n lv : ℕ) (r : Child) (w : Run) (s u : Part
 plan_step gs n lv r w s u cs p q ks k a b el t H ec len each P Q ek ea eb =
     let N = parts_planned gs n r w (subst (λ m. Tight gs m r) el t) p q ks len (λ j l. each j l ∙ ap (λ (ds : List Child). kind_of (get_or ds j Empty)) ec) (part_planned gs n r w 0 s cs p H.0 ec P) (part_planned gs n r w (width n) u cs q H.1 ec Q) in
     let fk : k ≡ blend (λ j. get_or (replaced n w ks p.kind q.kind) j AllEmpty) = ek
-    ∙ ap (λ (y : Part). blend (λ j. get_or (set (set ks y.child p.kind) u.child q.kind) j AllEmpty)) H.0
-    ∙ ap (λ (y : Part). blend (λ j. get_or (set (set ks (lower n w) p.kind) y.child q.kind) j AllEmpty)) H.1 in
+    ∙ ap (λ c. blend (λ j. get_or (set (set ks c p.kind) u.child q.kind) j AllEmpty)) H.0.child
+    ∙ ap (λ c. blend (λ j. get_or (set (set ks (lower n w) p.kind) c q.kind) j AllEmpty)) H.1.child in
     let fb : b ≡ wants (blend (λ j. get_or (replaced n w ks p.kind q.kind) j AllEmpty)) = eb ∙ ap wants fk in
     subst (λ m. Planned gs m r w (record { kind = k; before = p.before + q.before + a; after = p.after + q.after + b })) (sym el)
     (subst (λ (y : Change). Planned gs (suc n) r w y) (λ i. record { kind = sym fk i; before = p.before + q.before + sym ea i; after = p.after + q.after + sym fb i }) N)
 
-pub part_lies_in : (n lv : ℕ) (w : Run) (x : ℕ) (s : Part) → lv ≡ suc n → s ≡ part_at (width n) w x → Lies lv w → Lies n s.run
-part_lies_in n lv w x s el es m = subst (λ (y : Part). Lies n y.run) (sym es) (part_lies n w x (subst (λ k. Lies k w) el m))
+pub part_lies_in : (n lv : ℕ) (w : Run) (x : ℕ) (s : Part) → lv ≡ suc n → IsPartAt (width n) w x s → Lies lv w → Lies n s.run
+part_lies_in n lv w x s el es m = subst (λ (z : Run). Lies n z) (sym es.run) (part_lies n w x (subst (λ k. Lies k w) el m))
 
 -- ---- which of two parts comes first
 

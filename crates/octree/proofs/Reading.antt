@@ -1,23 +1,14 @@
 -- What reading a region rests on.
 use Rattle.std.proofs.Common.{◌≡◌, ℕ, zero, suc, ◌<◌, ◌≤◌, Bool, true, false, List, length, get_or, sym, refl, ap, ◌∙◌, subst, ⊎_elim, arith}
 use Rattle.std.proofs.lemmas.Bool.{cases_lt}
-use Rattle.octree.specs.declared.cells.Cell.{Cell}
+use Rattle.block.specs.declared.cells.Cell.{Cell}
 use Rattle.octree.specs.declared.cells.Child.{Child}
 use Rattle.octree.specs.declared.cells.Child.TheVariants.{Empty, Solid, Split}
 use Rattle.octree.specs.declared.cells.Group.{Group}
 use Rattle.octree.specs.Regions.{width, start_of}
 use Rattle.octree.specs.Trees.{children_of, child_at, which_child, minus, solid_at, has_group, has, uses}
 use Rattle.octree.specs.OnTheWay.{Readable, There, Tight}
-use Rattle.octree.proofs.Places.{child_below}
-use Rattle.octree.proofs.Trees.{child_empty, child_solid, tight_child, uses_child, one_self}
-
-pub empty_dark : (gs : List Group) (n : ℕ) (c : Cell) → solid_at gs n Empty c ≡ false
-empty_dark gs zero c = refl
-empty_dark gs (suc n) c = ap (λ (r : Child). solid_at gs n r (minus c (start_of (width n) (which_child (width n) c)))) (child_empty gs (which_child (width n) c)) ∙ empty_dark gs n (minus c (start_of (width n) (which_child (width n) c)))
-
-pub solid_light : (gs : List Group) (n : ℕ) (c : Cell) → solid_at gs n Solid c ≡ true
-solid_light gs zero c = refl
-solid_light gs (suc n) c = ap (λ (r : Child). solid_at gs n r (minus c (start_of (width n) (which_child (width n) c)))) (child_solid gs (which_child (width n) c) (child_below (width n) c)) ∙ solid_light gs n (minus c (start_of (width n) (which_child (width n) c)))
+use Rattle.octree.proofs.Trees.{tight_child, uses_child, one_self}
 
 -- no single cell is split
 pub split_above : (gs : List Group) (n : ℕ) (r : Child) → Tight gs n r → has_group r ≡ 1 → 1 ≤ n
@@ -35,7 +26,6 @@ readable_there gs n (Split g) h = ⊎_elim (λ l. l) (λ l. absurd (omega (arith
 
 pub readable_child : (gs : List Group) (n : ℕ) (r : Child) → Readable gs (suc n) r → (k : ℕ) → k < 8 → Readable gs n (child_at gs r k)
 readable_child gs n r h k l = record {
-  low = omega (arith, h.low);
   tight = tight_child gs n r h.tight k l;
   there = λ i p. omega (arith, h.there i p, uses_child gs n r i k l);
 }

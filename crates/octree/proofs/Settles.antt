@@ -1,5 +1,5 @@
 -- Writing down a region.
-use Rattle.std.proofs.Common.{◌≡◌, ℕ, ◌<◌, true, List, length, get_or, set, sym, refl, ap, ◌∙◌, arith}
+use Rattle.std.proofs.Common.{◌≡◌, ℕ, ◌<◌, true, List, length, get_or, set, sym, refl, ap, ◌∙◌, subst, arith}
 use Rattle.std.proofs.lemmas.List.{get_or-set_same, get_or-set_other, length-set}
 use Rattle.octree.specs.declared.cells.Child.{Child}
 use Rattle.octree.specs.declared.cells.Child.TheVariants.{Empty, Solid, Split}
@@ -7,13 +7,13 @@ use Rattle.octree.specs.declared.cells.Group.{Group}
 use Rattle.octree.specs.declared.cells.GroupId.{GroupId}
 use Rattle.octree.specs.declared.cells.Kind.{Kind}
 use Rattle.octree.specs.declared.cells.Kind.TheVariants.{Mixed}
-use Rattle.octree.specs.declared.cells.Unused.{Unused}
-use Rattle.octree.specs.Trees.{no_group, child_at, has_group, has, freed_at}
+use Rattle.octree.specs.declared.store.Store.{Store}
+use Rattle.octree.specs.Trees.{no_group, child_at, has_group, has, FreedList, freed_at}
 use Rattle.octree.specs.OnTheWay.{all_empty, all_solid, kind_of, blend, Apart, Taken, Freed, Settled}
 use Rattle.octree.proofs.Eights.{all8_each}
 use Rattle.octree.proofs.NeedLaws.{blend_empty, blend_solid}
-use Rattle.octree.proofs.Trees.{child_empty, child_solid}
-use Rattle.octree.proofs.Stock.{one_eq, freed_frame}
+use Rattle.octree.proofs.Trees.{leaf_child, leaf_has}
+use Rattle.octree.proofs.Stock.{one_eq, freed_frame, listed_frame, with_groups}
 
 pub blend_ext : (f g : ℕ → Kind) → ((k : ℕ) → k < 8 → f k ≡ g k) → blend f ≡ blend g
 blend_ext f g h =
@@ -31,53 +31,60 @@ blend_ext f g h =
 
 is_empty : (r : Child) → all_empty (kind_of r) ≡ true → r ≡ Empty
 is_empty Empty e = refl
-is_empty Solid e = let z : ◌≡◌ {A = ℕ} 0 1 = cc in absurd (omega arith)
-is_empty (Split g) e = let z : ◌≡◌ {A = ℕ} 0 1 = cc in absurd (omega arith)
+is_empty Solid e = absurd cc
+is_empty (Split g) e = absurd cc
 
 is_solid : (r : Child) → all_solid (kind_of r) ≡ true → r ≡ Solid
-is_solid Empty e = let z : ◌≡◌ {A = ℕ} 0 1 = cc in absurd (omega arith)
+is_solid Empty e = absurd cc
 is_solid Solid e = refl
-is_solid (Split g) e = let z : ◌≡◌ {A = ℕ} 0 1 = cc in absurd (omega arith)
+is_solid (Split g) e = absurd cc
 
 leaf_holds : (gs : List Group) (r : Child) (f : ℕ → Child) → has_group r ≡ 0 → kind_of r ≡ blend (λ k. kind_of (f k)) → (k : ℕ) → k < 8 → child_at gs r k ≡ f k
-leaf_holds gs Empty f z e k l = child_empty gs k ∙ sym (is_empty (f k) (all8_each (λ j. all_empty (kind_of (f j))) (sym (blend_empty (λ j. kind_of (f j))) ∙ sym (ap all_empty e)) k l))
-leaf_holds gs Solid f z e k l = child_solid gs k l ∙ sym (is_solid (f k) (all8_each (λ j. all_solid (kind_of (f j))) (sym (blend_solid (λ j. kind_of (f j))) ∙ sym (ap all_solid e)) k l))
+leaf_holds gs Empty f z e k l = leaf_child gs Empty k refl l ∙ sym (is_empty (f k) (all8_each (λ j. all_empty (kind_of (f j))) (sym (blend_empty (λ j. kind_of (f j))) ∙ sym (ap all_empty e)) k l))
+leaf_holds gs Solid f z e k l = leaf_child gs Solid k refl l ∙ sym (is_solid (f k) (all8_each (λ j. all_solid (kind_of (f j))) (sym (blend_solid (λ j. kind_of (f j))) ∙ sym (ap all_solid e)) k l))
 leaf_holds gs (Split g) f z e k l = absurd (omega arith)
 
-leaf_has : (r : Child) (i : ℕ) → has_group r ≡ 0 → has r i ≡ 0
-leaf_has Empty i z = refl
-leaf_has Solid i z = refl
-leaf_has (Split g) i z = absurd (omega arith)
-
 -- a region that is all alike frees its group
-pub settled_leaf : (gs gs' : List Group) (u u' : Unused) (r r' : Child) (cs : List Child) → has_group r' ≡ 0 → kind_of r' ≡ blend (λ k. kind_of (get_or cs k Empty)) → Freed gs u r gs' u' → Settled gs u r cs gs' u' r'
-settled_leaf gs gs' u u' r r' cs z e F = record {
+pub settled_leaf : (s s' : Store) (r r' : Child) (cs : List Child) → has_group r' ≡ 0 → kind_of r' ≡ blend (λ k. kind_of (get_or cs k Empty)) → Freed s r s' → Settled s r cs s' r'
+settled_leaf s s' r r' cs z e F = record {
+  lent = F.lent;
   long = F.long;
   kind = e;
-  holds = leaf_holds gs' r' (λ k. get_or cs k Empty) z e;
+  holds = leaf_holds s'.groups.now r' (λ k. get_or cs k Empty) z e;
   shared = λ i. omega (arith, leaf_has r' i z, F.back i);
   total = omega (arith, z, F.more);
   kept = λ i p. F.kept i (omega (arith, p));
-  marked = F.marked;
+  counted = F.counted;
 }
 
 -- a region that is not has one
-pub settled_split : (gs gs' : List Group) (u u' : Unused) (r : Child) (g : GroupId) (cs : List Child) → Apart gs u r → Mixed ≡ blend (λ k. kind_of (get_or cs k Empty)) → Taken gs u r g u' → gs' ≡ set gs g.index (record { children = cs }) → Settled gs u r cs gs' u' (Split g)
-settled_split gs gs' u u' r g cs A e K w = record {
+pub settled_split : (s t : Store) (r : Child) (g : GroupId) (cs : List Child) (gs' : List Group) → Apart s r → Mixed ≡ blend (λ k. kind_of (get_or cs k Empty)) → Taken s r g t → gs' ≡ set t.groups.now g.index (record { children = cs }) → Settled s r cs (with_groups t gs') (Split g)
+settled_split s t r g cs gs' A e K w = record {
+  lent = ap (λ x. x.ghost_name) K.same;
   long = long;
   kind = e;
-  holds = λ k l. ap (λ (x : Group). get_or x.children k Empty) (ap (λ (x : List Group). get_or x g.index no_group) w ∙ get_or-set_same gs g.index (record { children = cs }) no_group K.within);
-  shared = λ i. omega (arith, K.spent i, same i);
-  total = omega (arith, K.fewer, long);
+  holds = λ k l. ap (λ (x : Group). get_or x.children k Empty) (ap (λ (x : List Group). get_or x g.index no_group) v ∙ get_or-set_same s.groups.now g.index (record { children = cs }) no_group K.within);
+  shared = λ i. omega (arith, K.spent i, ap (λ (x : List Group). freed_at x t.freed t.last i) here, freed_frame s.groups.now gs' t.freed t.last apart i);
+  total = omega (arith, K.fewer, long, ap length here);
   kept = λ i p. else_same i (λ f. omega (arith, p, K.spent i, one_eq g.index i (sym f)));
-  marked = omega (arith, K.marked, long);
+  counted = record {
+    marked = omega (arith, K.counted.marked, long, ap length here);
+    below = K.counted.below;
+    listed = listed_frame s.groups.now gs' t.freed t.last apart (subst (λ (x : List Group). FreedList x t.freed t.last) here K.counted.listed);
+  };
 }
   where
-    long : length gs' ≡ length gs
-    long = ap length w ∙ length-set gs g.index _
+    here : t.groups.now ≡ s.groups.now
+    here = ap (λ x. x.now) K.same
 
-    else_same : (i : ℕ) → (i ≡ g.index → ⊥) → get_or gs' i no_group ≡ get_or gs i no_group
-    else_same i ne = ap (λ (x : List Group). get_or x i no_group) w ∙ get_or-set_other gs g.index i _ no_group ne
+    v : gs' ≡ set s.groups.now g.index (record { children = cs })
+    v = w ∙ ap (λ (x : List Group). set x g.index (record { children = cs })) here
 
-    same : (i : ℕ) → freed_at gs' u'.freed u'.last.index i ≡ freed_at gs u'.freed u'.last.index i
-    same = freed_frame gs gs' u'.freed u'.last.index (λ i p. else_same i (λ f. omega (arith, A.once i, K.spent i, p, one_eq g.index i (sym f))))
+    long : length gs' ≡ length s.groups.now
+    long = ap length v ∙ length-set s.groups.now g.index _
+
+    else_same : (i : ℕ) → (i ≡ g.index → ⊥) → get_or gs' i no_group ≡ get_or s.groups.now i no_group
+    else_same i ne = ap (λ (x : List Group). get_or x i no_group) v ∙ get_or-set_other s.groups.now g.index i _ no_group ne
+
+    apart : (i : ℕ) → 0 < freed_at s.groups.now t.freed t.last i → get_or gs' i no_group ≡ get_or s.groups.now i no_group
+    apart i p = else_same i (λ f. omega (arith, A.once i, K.spent i, p, ap (λ (x : List Group). freed_at x t.freed t.last i) here, one_eq g.index i (sym f)))

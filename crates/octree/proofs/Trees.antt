@@ -1,26 +1,31 @@
 -- What the groups hold.
-use Rattle.std.proofs.Common.{◌≡◌, ℕ, zero, suc, ◌+◌, ◌<◌, ◌≤◌, Bool, true, false, cond, ◌||◌, eqb, List, get_or, refl, ap, ◌∙◌, ⊎_elim, arith}
-use Rattle.std.proofs.lemmas.List.{get_or_past}
-use Rattle.std.proofs.lemmas.Bool.{cond-true, eq-eqb, cases_lt}
-use Rattle.octree.specs.declared.cells.Cell.{Cell}
+use Rattle.std.proofs.Common.{◌≡◌, ℕ, zero, suc, ◌+◌, ◌<◌, ◌≤◌, Bool, true, false, cond, not, ◌||◌, eqb, List, get_or, refl, ap, ◌∙◌, arith}
+use mathlib.Core.Path.{fun_ext}
+use Rattle.std.proofs.lemmas.Bool.{cond-true, eq-eqb}
+use Rattle.block.specs.declared.cells.Cell.{Cell}
 use Rattle.octree.specs.declared.cells.Child.{Child}
 use Rattle.octree.specs.declared.cells.Child.TheVariants.{Empty, Solid, Split}
 use Rattle.octree.specs.declared.cells.Group.{Group}
 use Rattle.octree.specs.declared.cells.Kind.TheVariants.{AllEmpty, AllSolid, Mixed}
 use Rattle.octree.specs.Regions.{width, origin, plus, start_of, sum8, all8, all_are, mixed, need_of}
-use Rattle.octree.specs.Trees.{no_group, children_of, child_at, which_child, minus, solid_at, one, has_group, has, group_count, uses}
+use Rattle.octree.specs.Trees.{no_group, children_of, child_at, which_child, minus, is_solid, solid_at, one, has_group, has, group_count, uses}
 use Rattle.octree.specs.OnTheWay.{kind_of, wants, Shows, Tight}
 use Rattle.octree.proofs.Eights.{eight, sum8_part, sum8_ext, all8_ext}
 use Rattle.octree.proofs.Places.{child_below, child_of_start, minus_plus}
-use Rattle.octree.proofs.NeedLaws.{Parts, all_split, need_split, mixed_most, mixed_alike}
+use Rattle.octree.proofs.NeedLaws.{Parts, need_split, mixed_most, mixed_alike}
 
 -- ---- children
 
-pub child_empty : (gs : List Group) (k : ℕ) → child_at gs Empty k ≡ Empty
-child_empty gs k = ⊎_elim (eight (λ j. child_at gs Empty j ≡ Empty) refl refl refl refl refl refl refl refl k) (get_or_past (children_of gs Empty) k Empty) (cases_lt k 8)
+-- each child of a region with no group is that region again
+pub leaf_child : (gs : List Group) (r : Child) (k : ℕ) → has_group r ≡ 0 → k < 8 → child_at gs r k ≡ r
+leaf_child gs Empty k z l = eight (λ j. child_at gs Empty j ≡ Empty) refl refl refl refl refl refl refl refl k l
+leaf_child gs Solid k z l = eight (λ j. child_at gs Solid j ≡ Solid) refl refl refl refl refl refl refl refl k l
+leaf_child gs (Split g) k z l = absurd (omega arith)
 
-pub child_solid : (gs : List Group) (k : ℕ) → k < 8 → child_at gs Solid k ≡ Solid
-child_solid gs = eight (λ j. child_at gs Solid j ≡ Solid) refl refl refl refl refl refl refl refl
+pub leaf_has : (r : Child) (i : ℕ) → has_group r ≡ 0 → has r i ≡ 0
+leaf_has Empty i z = refl
+leaf_has Solid i z = refl
+leaf_has (Split g) i z = absurd (omega arith)
 
 -- the cells of a region whose eight children are cs
 abbrev pub joined : List Group → ℕ → List Child → Cell → Bool
@@ -46,58 +51,35 @@ wants_own (Split g) = refl
 
 -- ---- a region that is all alike
 
+all_constant : (v b : Bool) (n : ℕ) (c : Cell) → all_are v n (λ a. b) c ≡ cond v b (not b)
+all_constant v b zero c = refl
+all_constant v b (suc n) c = all8_ext _ (λ k. cond v b (not b)) (λ k l. all_constant v b n (plus c (start_of (width n) k))) ∙ eightfold (cond v b (not b))
+  where
+    eightfold : (t : Bool) → all8 (λ k. t) ≡ t
+    eightfold true = refl
+    eightfold false = refl
+
 module _ (gs : List Group) where
-  tree_all : (v : Bool) (n : ℕ) (r : Child) (b : Bool) → ((k : ℕ) → k < 8 → all_are v n (solid_at gs n (child_at gs r k)) origin ≡ b) → all_are v (suc n) (solid_at gs (suc n) r) origin ≡ b
-  tree_all v n r b h = all_split v n (solid_at gs (suc n) r) (λ k. solid_at gs n (child_at gs r k)) (tree_parts gs n r) ∙ all8_ext _ (λ k. b) h ∙ eightfold b
-    where
-      eightfold : (t : Bool) → all8 (λ k. t) ≡ t
-      eightfold true = refl
-      eightfold false = refl
+  pub leaf_shows : (n : ℕ) (r : Child) (c : Cell) → has_group r ≡ 0 → solid_at gs n r c ≡ is_solid r
+  leaf_shows zero r c z = refl
+  leaf_shows (suc n) r c z =
+      let k : ℕ = which_child (width n) c in
+      ap (λ (x : Child). solid_at gs n x (minus c (start_of (width n) k))) (leaf_child gs r k z (child_below (width n) c)) ∙ leaf_shows n r (minus c (start_of (width n) k)) z
 
-  empty_alike : (n : ℕ) → Shows AllEmpty n (solid_at gs n Empty)
-  empty_alike zero = record { empty = refl; full = refl }
-  empty_alike (suc n) = record {
-    empty = tree_all false n Empty true (λ k l. ap (λ c. all_are false n (solid_at gs n c) origin) (child_empty gs k) ∙ (empty_alike n).empty);
-    full = tree_all true n Empty false (λ k l. ap (λ c. all_are true n (solid_at gs n c) origin) (child_empty gs k) ∙ (empty_alike n).full);
-  }
+  leaf_alike : (v : Bool) (n : ℕ) (r : Child) → has_group r ≡ 0 → all_are v n (solid_at gs n r) origin ≡ cond v (is_solid r) (not (is_solid r))
+  leaf_alike v n r z = ap (λ (p : Cell → Bool). all_are v n p origin) (fun_ext (λ c. leaf_shows n r c z)) ∙ all_constant v (is_solid r) n origin
 
-  solid_alike : (n : ℕ) → Shows AllSolid n (solid_at gs n Solid)
-  solid_alike zero = record { empty = refl; full = refl }
-  solid_alike (suc n) = record {
-    empty = tree_all false n Solid false (λ k l. ap (λ c. all_are false n (solid_at gs n c) origin) (child_solid gs k l) ∙ (solid_alike n).empty);
-    full = tree_all true n Solid true (λ k l. ap (λ c. all_are true n (solid_at gs n c) origin) (child_solid gs k l) ∙ (solid_alike n).full);
-  }
-
-  empty_uses : (n i : ℕ) → uses gs n Empty i ≡ 0
-  empty_uses zero i = refl
-  empty_uses (suc n) i = let e = empty_uses n i in simp e
-
-  solid_uses : (n i : ℕ) → uses gs n Solid i ≡ 0
-  solid_uses zero i = refl
-  solid_uses (suc n) i = let e = solid_uses n i in simp e
-
-  empty_count : (n : ℕ) → group_count gs n Empty ≡ 0
-  empty_count zero = refl
-  empty_count (suc n) = let e = empty_count n in simp e
-
-  solid_count : (n : ℕ) → group_count gs n Solid ≡ 0
-  solid_count zero = refl
-  solid_count (suc n) = let e = solid_count n in simp e
-
-  -- the same of both
   pub leaf_uses : (n : ℕ) (r : Child) (i : ℕ) → has_group r ≡ 0 → uses gs n r i ≡ 0
-  leaf_uses n Empty i e = empty_uses n i
-  leaf_uses n Solid i e = solid_uses n i
-  leaf_uses n (Split g) i e = absurd (omega arith)
+  leaf_uses zero r i z = leaf_has r i z
+  leaf_uses (suc n) r i z = omega (arith, leaf_has r i z, sum8_ext (λ k. uses gs n (child_at gs r k) i) (λ k. 0) (λ k l. ap (λ (x : Child). uses gs n x i) (leaf_child gs r k z l) ∙ leaf_uses n r i z))
 
   pub leaf_count : (n : ℕ) (r : Child) → has_group r ≡ 0 → group_count gs n r ≡ 0
-  leaf_count n Empty e = empty_count n
-  leaf_count n Solid e = solid_count n
-  leaf_count n (Split g) e = absurd (omega arith)
+  leaf_count zero r z = z
+  leaf_count (suc n) r z = omega (arith, z, sum8_ext (λ k. group_count gs n (child_at gs r k)) (λ k. 0) (λ k l. ap (λ (x : Child). group_count gs n x) (leaf_child gs r k z l) ∙ leaf_count n r z))
 
   leaf_unmixed : (n : ℕ) (r : Child) → has_group r ≡ 0 → mixed n (solid_at gs n r) origin ≡ 0
-  leaf_unmixed n Empty e = mixed_alike false n (solid_at gs n Empty) origin (empty_alike n).empty
-  leaf_unmixed n Solid e = mixed_alike true n (solid_at gs n Solid) origin (solid_alike n).full
+  leaf_unmixed n Empty e = mixed_alike false n (solid_at gs n Empty) origin (leaf_alike false n Empty refl)
+  leaf_unmixed n Solid e = mixed_alike true n (solid_at gs n Solid) origin (leaf_alike true n Solid refl)
   leaf_unmixed n (Split g) e = absurd (omega arith)
 
   -- ---- a drawing needs no more groups than hold it; where it needs all of them, each region shows what it holds
@@ -142,8 +124,8 @@ module _ (gs : List Group) where
       neither false false f = (refl, refl)
 
   pub tight_shows : (n : ℕ) (r : Child) → Tight gs n r → Shows (kind_of r) n (solid_at gs n r)
-  tight_shows n Empty t = empty_alike n
-  tight_shows n Solid t = solid_alike n
+  tight_shows n Empty t = record { empty = leaf_alike false n Empty refl; full = leaf_alike true n Empty refl }
+  tight_shows n Solid t = record { empty = leaf_alike false n Solid refl; full = leaf_alike true n Solid refl }
   tight_shows zero (Split g) t = absurd (omega arith)
   tight_shows (suc n) (Split g) t = split_shows (suc n) (solid_at gs (suc n) (Split g)) (tight_group n (Split g) t)
 

@@ -1,111 +1,150 @@
 -- What the calls on a whole octree rest on.
-use Rattle.std.proofs.Common.{◌≡◌, ℕ, ◌-◌, ◌*◌, ◌≤◌, Bool, true, false, ltb, leb, List, length, sym, refl, ap, ◌∙◌, ⊎_elim, arith, lit≤}
+use Rattle.std.proofs.Common.{◌≡◌, ℕ, ◌+◌, ◌-◌, ◌*◌, ◌≤◌, Bool, true, false, ltb, leb, Option, None, List, length, sym, refl, ap, ◌∙◌, subst, ⊎_elim, arith, lit≤}
 use mathlib.Core.Path.{fun_ext}
 use Rattle.std.proofs.lemmas.Bool.{leb-true, le-leb, lt-leb, cases_lt, cond_both}
+use Rattle.refusals.specs.declared.box_side.BoxSide.{BoxSide}
+use Rattle.refusals.specs.BoxSides.{cells_of}
 use Rattle.refusals.specs.Sides.{is_side}
+use Rattle.refusals.proofs.SideLaws.{cells_of_one}
 use Rattle.block.specs.Drawing.{blank, changed, in_box, in_row, number}
 use Rattle.block.proofs.Numbers.{in_box_true, in_row_true}
 use Rattle.block.proofs.Sides.{by_side}
-use Rattle.octree.specs.declared.cells.Cell.{Cell}
+use Rattle.block.specs.declared.cells.Cell.{Cell}
 use Rattle.octree.specs.declared.cells.Change.{Change}
 use Rattle.octree.specs.declared.cells.Child.{Child}
 use Rattle.octree.specs.declared.cells.Child.TheVariants.{Empty}
 use Rattle.octree.specs.declared.cells.Group.{Group}
-use Rattle.octree.specs.declared.cells.Run.{Run}
-use Rattle.octree.specs.declared.cells.Unused.{Unused}
+use Rattle.octree.specs.declared.cells.GroupId.{GroupId}
+use Rattle.block.specs.declared.cells.Run.{Run}
+use Rattle.octree.specs.declared.store.Store.{Store}
+use Rattle.octree.specs.declared.Octree.{Octree}
+use Rattle.octree.specs.Meaning.{edge_of, drawing_of, Kept, Sound}
 use Rattle.octree.specs.Laws.{blank_need}
 use Rattle.octree.specs.Regions.{level_of, origin, need_of, needed, room}
-use Rattle.octree.specs.Trees.{cell_of, solid_at, shown, freed_at, Whole}
+use Rattle.octree.specs.Trees.{cell_of, solid_at, group_count, uses, shown, FreedList, freed_at, Whole}
 use Rattle.octree.specs.OnTheWay.{flipped, Lies, Tight, Readable, Planned, left, Ready, Moved}
 use Rattle.octree.proofs.NeedLaws.{most, need_most}
-use Rattle.octree.proofs.Trees.{leaf_uses, leaf_count}
-use Rattle.octree.proofs.Reading.{empty_dark}
+use Rattle.octree.proofs.Trees.{leaf_shows, leaf_uses, leaf_count}
 use Rattle.octree.proofs.Stock.{one_le}
-use Rattle.octree.proofs.Boxes.{box_low, box_width, shown_cell, shown_need, changed_need, changed_shown}
+use Rattle.octree.proofs.Boxes.{box_width, shown_cell, shown_need, changed_need, changed_shown}
 
 -- a drawing never needs more groups than can be named
 few_needed : (n : ℕ) → is_side n ≡ true → most (level_of n) ≤ 37449
 few_needed = by_side (λ n. most (level_of n) ≤ 37449) (lit≤ tt) (lit≤ tt) (lit≤ tt) (lit≤ tt) (lit≤ tt) (lit≤ tt)
 
-module _ (n : ℕ) (gs : List Group) (r : Child) (u : Unused) (W : Whole n gs r u) where
-  whole_tight : Tight gs (level_of n) r
-  whole_tight = W.exact ∙ shown_need n W.a_side gs r
+module _ (o : Octree) (W : Sound o) where
+  abbrev n : ℕ
+  n = edge_of o
 
-  pub whole_readable : Readable gs (level_of n) r
-  whole_readable = record {
-    low = box_low n W.a_side;
-    tight = whole_tight;
-    there = λ i l. omega (arith, W.once i, one_le u.mark i (omega (arith, W.marked, l)));
+  a : is_side n ≡ true
+  a = cells_of_one o.side
+
+  abbrev st : Store
+  st = o.store
+
+  abbrev gs : List Group
+  gs = st.groups.now
+
+  abbrev r : Child
+  r = o.root
+
+  tight : Tight gs (level_of n) r
+  tight = W.exact ∙ shown_need n a gs r
+
+  readable : Readable gs (level_of n) r
+  readable = record {
+    tight = tight;
+    there = λ i l. omega (arith, W.once i, one_le st.mark i (omega (arith, W.counted.marked, l)));
   }
 
-  module _ (w : Run) (l : Lies (level_of n) w) where
-    abbrev after : ℕ → Bool
-    after = changed n (shown n gs r) w.y w.z w.from w.to
+  lies : (w : Run) → in_row n w ≡ true → Lies (level_of n) w
+  lies w h =
+      let p = in_row_true n w h in
+      let e = box_width n a in
+      record { short = omega (arith, e, p.3); in_y = omega (arith, e, p.0); in_z = omega (arith, e, p.1) }
 
-    need_is : needed n after ≡ need_of (level_of n) (flipped w (solid_at gs (level_of n) r)) origin
-    need_is = changed_need n W.a_side gs r w l
+  -- the same by what the code has of the box's level
+  module _ (lv : ℕ) (el : lv ≡ level_of n) where
+    pub whole_readable : Readable gs lv r
+    whole_readable = subst (λ m. Readable gs m r) (sym el) readable
 
-    need_few : needed n after ≤ 37449
-    need_few = omega (arith, need_is, need_most (level_of n) (flipped w (solid_at gs (level_of n) r)) origin, few_needed n W.a_side)
+    pub whole_look : (c : Cell) → in_box n c.x c.y c.z ≡ true → solid_at gs lv r c ≡ shown n gs r (number n c.x c.y c.z)
+    whole_look c h = ap (λ m. solid_at gs m r c) el ∙ sym (shown_cell n a gs r c (in_box_true n c.x c.y c.z h))
 
-    -- the drawing fits with the run changed where the groups that it needs more are there
-    pub whole_takes : (q : Change) → Planned gs (level_of n) r w q → leb (q.after - q.before) (left gs u) ≡ room n (length gs) after
-    unfolding room
-    whole_takes q P = ⊎_elim
-        (λ h. lt-leb (q.after - q.before) (left gs u) h ∙ sym (lt-leb (needed n after) (length gs) (omega (arith, h, need_is, P.needs, whole_tight, W.count, W.marked, need_few))))
-        (λ h. le-leb (q.after - q.before) (left gs u) h ∙ sym (le-leb (needed n after) (length gs) (omega (arith, h, need_is, P.needs, whole_tight, W.count, W.marked))))
-        (cases_lt (left gs u) (q.after - q.before))
+    module _ (w : Run) (h : in_row n w ≡ true) where
+      abbrev after : ℕ → Bool
+      after = changed n (shown n gs r) w
 
-    pub whole_ready : room n (length gs) after ≡ true → Ready gs u (level_of n) r w
-    unfolding room
-    whole_ready f = record {
-      low = box_low n W.a_side;
-      tight = whole_tight;
-      apart = λ i. omega (arith, W.once i);
-      few = omega (arith, W.count, W.marked);
-      marked = W.marked;
-      lies = l;
-      fits = omega (arith, leb-true (needed n after) (length gs) f, need_is, need_few, W.count, W.marked);
-    }
+      need_is : needed n after ≡ need_of lv (flipped w (solid_at gs lv r)) origin
+      need_is = changed_need n a gs r w (lies w h) ∙ ap (λ m. need_of m (flipped w (solid_at gs m r)) origin) (sym el)
 
-    module _ (gs' : List Group) (r' : Child) (u' : Unused) (M : Moved gs u (level_of n) r (flipped w (solid_at gs (level_of n) r)) gs' u' r') where
-      pub whole_kept : Whole n gs' r' u'
-      whole_kept = record {
-        a_side = W.a_side;
-        exact = M.tight ∙ sym (shown_need n W.a_side gs' r');
-        once = λ i. M.shared i ∙ W.once i;
-        count = omega (arith, M.total, M.long, M.marked, W.count, W.marked);
-        marked = M.marked;
+      need_few : needed n after ≤ 37449
+      need_few = omega (arith, need_is, need_most lv (flipped w (solid_at gs lv r)) origin, ap most el, few_needed n a)
+
+      whole_tight : Tight gs lv r
+      whole_tight = whole_readable.tight
+
+      own_count : group_count gs lv r + st.freed ≡ st.mark
+      own_count = ap (λ m. group_count gs m r + st.freed) el ∙ W.count
+
+      pub whole_lies : Lies lv w
+      whole_lies = subst (λ m. Lies m w) (sym el) (lies w h)
+
+      -- the drawing fits with the run changed where the groups that it needs more are there
+      pub whole_takes : (q : Change) → Planned gs lv r w q → leb (q.after - q.before) (left st) ≡ room n (length gs) after
+      unfolding room
+      whole_takes q P = ⊎_elim
+          (λ f. lt-leb (q.after - q.before) (left st) f ∙ sym (lt-leb (needed n after) (length gs) (omega (arith, f, need_is, P.needs, whole_tight, own_count, W.counted.marked, need_few))))
+          (λ f. le-leb (q.after - q.before) (left st) f ∙ sym (le-leb (needed n after) (length gs) (omega (arith, f, need_is, P.needs, whole_tight, own_count, W.counted.marked))))
+          (cases_lt (left st) (q.after - q.before))
+
+      pub whole_ready : room n (length gs) after ≡ true → Ready st lv r w
+      unfolding room
+      whole_ready f = record {
+        tight = whole_tight;
+        apart = λ i. omega (arith, W.once i, ap (λ m. uses gs m r i) el);
+        few = omega (arith, own_count, W.counted.marked);
+        counted = W.counted;
+        lies = whole_lies;
+        fits = omega (arith, leb-true (needed n after) (length gs) f, need_is, need_few, own_count, W.counted.marked);
       }
 
-      pub whole_drawn : shown n gs' r' ≡ after
-      whole_drawn = changed_shown n W.a_side gs r w l gs' r' M.drawn
+      module _ (st' : Store) (r' : Child) (M : Moved st lv r (flipped w (solid_at gs lv r)) st' r') where
+        abbrev gs' : List Group
+        gs' = st'.groups.now
+
+        moved : Moved st (level_of n) r (flipped w (solid_at gs (level_of n) r)) st' r'
+        moved = subst (λ m. Moved st m r (flipped w (solid_at gs m r)) st' r') el M
+
+        sound : Whole n st' r'
+        sound = record {
+          exact = moved.tight ∙ sym (shown_need n a gs' r');
+          once = λ i. moved.shared i ∙ W.once i;
+          count = omega (arith, moved.total, moved.long, moved.counted.marked, W.count, W.counted.marked);
+          counted = moved.counted;
+        }
+
+        pub whole_kept : Kept o (record o { store = st'; root = r' })
+        whole_kept = record { still_sound = sound; same_loans = M.lent; same_side = refl; same_fits = ap (room n) M.long }
+
+        pub whole_drawn : drawing_of (record o { store = st'; root = r' }) ≡ after
+        whole_drawn = changed_shown n a gs r w (lies w h) gs' r' moved.drawn
 
 -- ---- a new octree
 
 pub fresh_blank : (n : ℕ) (gs : List Group) → shown n gs Empty ≡ blank
 unfolding shown
-fresh_blank n gs = fun_ext (λ k. cond_both (ltb k (n * n * n)) _ false (λ b. b ≡ false) (λ e. empty_dark gs (level_of n) (cell_of n k)) (λ e. refl))
+fresh_blank n gs = fun_ext (λ k. cond_both (ltb k (n * n * n)) _ false (λ b. b ≡ false) (λ e. leaf_shows gs (level_of n) Empty (cell_of n k) refl) (λ e. refl))
 
-pub fresh_whole : (n : ℕ) (gs : List Group) (u : Unused) → is_side n ≡ true → u.mark ≡ 0 → u.freed ≡ 0 → Whole n gs Empty u
+pub fresh_whole : (b : BoxSide) (s : Store) → s.mark ≡ 0 → s.freed ≡ 0 → s.last ≡ None → Whole (cells_of b) s Empty
 unfolding needed
-fresh_whole n gs u s em ef = record {
-  a_side = s;
-  exact = leaf_count gs (level_of n) Empty refl ∙ sym (ap (needed n) (fresh_blank n gs) ∙ blank_need (level_of n) origin);
-  once = λ i. omega (arith, leaf_uses gs (level_of n) Empty i refl, one_le u.mark i (omega (arith, em)), ap (λ m. freed_at gs m u.last.index i) ef);
-  count = omega (arith, leaf_count gs (level_of n) Empty refl, em, ef);
-  marked = omega (arith, em);
+fresh_whole b s em ef el = record {
+  exact = leaf_count s.groups.now (level_of (cells_of b)) Empty refl ∙ sym (ap (needed (cells_of b)) (fresh_blank (cells_of b) s.groups.now) ∙ blank_need (level_of (cells_of b)) origin);
+  once = λ i. omega (arith, leaf_uses s.groups.now (level_of (cells_of b)) Empty i refl, one_le s.mark i (omega (arith, em)), ap (λ m. freed_at s.groups.now m s.last i) ef);
+  count = omega (arith, leaf_count s.groups.now (level_of (cells_of b)) Empty refl, em, ef);
+  counted = record {
+    marked = omega (arith, em);
+    below = omega (arith, ef);
+    listed = subst (λ m. FreedList s.groups.now m s.last) (sym ef) (subst (λ (l : Option GroupId). FreedList s.groups.now 0 l) (sym el) tt);
+  };
 }
-
--- ---- the run of a flip
-
-pub row_lies : (n y z l r : ℕ) → is_side n ≡ true → in_row n y z l r ≡ true → Lies (level_of n) (record { from = l; to = r; y = y; z = z })
-row_lies n y z l r s e =
-    let p = in_row_true n y z l r e in
-    let w = box_width n s in
-    record { short = omega (arith, w, p.3); in_y = omega (arith, w, p.0); in_z = omega (arith, w, p.1) }
-
--- ---- a look
-
-pub look_shown : (n : ℕ) (gs : List Group) (r : Child) (c : Cell) → is_side n ≡ true → in_box n c.x c.y c.z ≡ true → solid_at gs (level_of n) r c ≡ shown n gs r (number n c.x c.y c.z)
-look_shown n gs r c s h = sym (shown_cell n s gs r c (in_box_true n c.x c.y c.z h))

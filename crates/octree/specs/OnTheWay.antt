@@ -1,7 +1,7 @@
 -- Words of the code on the way: what the functions below the octree's own ask and promise. A reader of the public contracts needs none of
 -- them. Regions are seen from where they begin, so that each cell of a region of level n has places below width n.
-use Rattle.std.specs.Prelude.{◌≡◌, ℕ, ◌+◌, ◌-◌, ◌<◌, ◌≤◌, min, Bool, true, false, cond, not, ◌&&◌, ◌⊎◌, List, length, ◌==◌, nat_le, nat_lt, slice_index_or}
-use Rattle.octree.specs.declared.cells.Cell.{Cell}
+use Rattle.std.specs.Prelude.{◌≡◌, ℕ, ◌+◌, ◌-◌, ◌<◌, ◌≤◌, min, Bool, true, false, if◌then◌else◌, not, ◌&&◌, ◌⊎◌, List, length, ◌==◌, nat_le, nat_lt, slice_index_or}
+use Rattle.block.specs.declared.cells.Cell.{Cell}
 use Rattle.octree.specs.declared.cells.Change.{Change}
 use Rattle.octree.specs.declared.cells.Child.{Child}
 use Rattle.octree.specs.declared.cells.Child.TheVariants.{Empty, Solid, Split}
@@ -10,10 +10,10 @@ use Rattle.octree.specs.declared.cells.GroupId.{GroupId}
 use Rattle.octree.specs.declared.cells.Kind.{Kind}
 use Rattle.octree.specs.declared.cells.Kind.TheVariants.{AllEmpty, AllSolid, Mixed}
 use Rattle.octree.specs.declared.cells.Part.{Part}
-use Rattle.octree.specs.declared.cells.Run.{Run}
-use Rattle.octree.specs.declared.cells.Unused.{Unused}
+use Rattle.block.specs.declared.cells.Run.{Run}
+use Rattle.octree.specs.declared.store.Store.{Store}
 use Rattle.octree.specs.Regions.{width, origin, start_of, all_are, need_of}
-use Rattle.octree.specs.Trees.{no_group, child_at, which_child, solid_at, one, has_group, has, group_count, uses, idle, capacity}
+use Rattle.octree.specs.Trees.{no_group, child_at, which_child, solid_at, one, has_group, has, group_count, uses, idle, capacity, Counted}
 
 -- ---- runs
 
@@ -23,28 +23,30 @@ Inside h c = (c.x < h) × (c.y < h) × (c.z < h)
 
 -- the cell is one of the run's
 abbrev pub in_run : Run → Cell → Bool
-in_run w c = c.y == w.y && (c.z == w.z && (nat_le w.from c.x && nat_lt c.x w.to))
+in_run w c = c.y == w.y && (c.z == w.z && (nat_le w.start c.x && nat_lt c.x w.end))
 
 -- the drawing with the cells of a run changed
 abbrev pub flipped : Run → (Cell → Bool) → Cell → Bool
-flipped w p c = cond (in_run w c) (not (p c)) (p c)
+flipped w p c = if in_run w c then not (p c) else p c
 
 -- the run lies in a region of level n
 pub record Lies (n : ℕ) (w : Run) : Type 0 where
-  pub short : w.to ≤ width n
+  pub short : w.end ≤ width n
   pub in_y : w.y < width n
   pub in_z : w.z < width n
 
 -- the part of a run in the child k, counted from where that begins
 abbrev pub run_in : ℕ → Run → ℕ → Run
-run_in h w k = record { from = w.from - (start_of h k).x; to = min (w.to - (start_of h k).x) h; y = w.y - (start_of h k).y; z = w.z - (start_of h k).z }
+run_in h w k = record { y = w.y - (start_of h k).y; z = w.z - (start_of h k).z; start = w.start - (start_of h k).x; end = min (w.end - (start_of h k).x) h }
 
 -- the child that the cell x of the run's row lies in
 abbrev pub row_child : ℕ → Run → ℕ → ℕ
 row_child h w x = which_child h (record { x = x; y = w.y; z = w.z })
 
-abbrev pub part_at : ℕ → Run → ℕ → Part
-part_at h w x = record { child = row_child h w x; run = run_in h w (row_child h w x) }
+-- the child that the cell x of the run's row lies in, with the part of the run in it
+pub record IsPartAt (h : ℕ) (w : Run) (x : ℕ) (p : Part) : Type 0 where
+  pub child : p.child ≡ row_child h w x
+  pub run : p.run ≡ run_in h w (row_child h w x)
 
 -- ---- what a region holds
 
@@ -107,7 +109,6 @@ There gs (Split g) = g.index < length gs
 
 -- a region that can be read
 pub record Readable (gs : List Group) (n : ℕ) (r : Child) : Type 0 where
-  pub low : n ≤ 6
   pub tight : Tight gs n r
   pub there : (i : ℕ) → length gs ≤ i → uses gs n r i ≡ 0
 
@@ -121,70 +122,69 @@ pub record Planned (gs : List Group) (n : ℕ) (r : Child) (w : Run) (q : Change
 -- ---- unused groups
 
 -- how many groups are unused
-abbrev pub left : List Group → Unused → ℕ
-left gs u = u.freed + (capacity gs - u.mark)
-
--- one more group is freed
-abbrev pub freed_last : Unused → GroupId → Unused
-freed_last u g = record { mark = u.mark; freed = u.freed + 1; last = g }
+abbrev pub left : Store → ℕ
+left s = s.freed + (capacity s.groups.now - s.mark)
 
 -- a region r and the unused groups share none, and those can be counted
-pub record Apart (gs : List Group) (u : Unused) (r : Child) : Type 0 where
-  pub once : (i : ℕ) → has r i + idle gs u i ≤ 1
-  pub few : has_group r + left gs u ≤ capacity gs
-  pub marked : u.mark ≤ capacity gs
+pub record Apart (s : Store) (r : Child) : Type 0 where
+  pub once : (i : ℕ) → has r i + idle s i ≤ 1
+  pub few : has_group r + left s ≤ capacity s.groups.now
+  pub counted : Counted s
 
--- the region r has the group g: its own, or else one of the unused, of which u' are left
-pub record Taken (gs : List Group) (u : Unused) (r : Child) (g : GroupId) (u' : Unused) : Type 0 where
-  pub within : g.index < length gs
-  pub spent : (i : ℕ) → has r i + idle gs u i ≡ one (g.index == i) + idle gs u' i
-  pub fewer : has_group r + left gs u ≡ 1 + left gs u'
-  pub marked : u'.mark ≤ capacity gs
+-- the region r has the group g: its own, or else one of the unused, of which those of s' are left
+pub record Taken (s : Store) (r : Child) (g : GroupId) (s' : Store) : Type 0 where
+  pub same : s'.groups ≡ s.groups
+  pub within : g.index < length s.groups.now
+  pub spent : (i : ℕ) → has r i + idle s i ≡ one (g.index == i) + idle s' i
+  pub fewer : has_group r + left s ≡ 1 + left s'
+  pub counted : Counted s'
 
 -- the group of the region r, if it has one, is now among the unused
-pub record Freed (gs : List Group) (u : Unused) (r : Child) (gs' : List Group) (u' : Unused) : Type 0 where
-  pub long : length gs' ≡ length gs
-  pub kept : (i : ℕ) → has r i ≡ 0 → slice_index_or gs' i no_group ≡ slice_index_or gs i no_group
-  pub back : (i : ℕ) → idle gs' u' i ≡ has r i + idle gs u i
-  pub more : left gs' u' ≡ has_group r + left gs u
-  pub marked : u'.mark ≤ capacity gs'
+pub record Freed (s : Store) (r : Child) (s' : Store) : Type 0 where
+  pub lent : s'.groups.ghost_name ≡ s.groups.ghost_name
+  pub long : length s'.groups.now ≡ length s.groups.now
+  pub kept : (i : ℕ) → has r i ≡ 0 → slice_index_or s'.groups.now i no_group ≡ slice_index_or s.groups.now i no_group
+  pub back : (i : ℕ) → idle s' i ≡ has r i + idle s i
+  pub more : left s' ≡ has_group r + left s
+  pub counted : Counted s'
 
 -- ---- one region changes
 
 -- the region r has become r', with the eight children cs: what it needs it has taken from the unused groups, what it left it has given to
 -- them, and no other group has changed
-pub record Settled (gs : List Group) (u : Unused) (r : Child) (cs : List Child) (gs' : List Group) (u' : Unused) (r' : Child) : Type 0 where
-  pub long : length gs' ≡ length gs
+pub record Settled (s : Store) (r : Child) (cs : List Child) (s' : Store) (r' : Child) : Type 0 where
+  pub lent : s'.groups.ghost_name ≡ s.groups.ghost_name
+  pub long : length s'.groups.now ≡ length s.groups.now
   pub kind : kind_of r' ≡ blend (λ k. kind_of (slice_index_or cs k Empty))
-  pub holds : (k : ℕ) → k < 8 → child_at gs' r' k ≡ slice_index_or cs k Empty
-  pub shared : (i : ℕ) → has r' i + idle gs' u' i ≡ has r i + idle gs u i
-  pub total : has_group r' + left gs' u' ≡ has_group r + left gs u
-  pub kept : (i : ℕ) → has r i + idle gs u i ≡ 0 → slice_index_or gs' i no_group ≡ slice_index_or gs i no_group
-  pub marked : u'.mark ≤ capacity gs'
+  pub holds : (k : ℕ) → k < 8 → child_at s'.groups.now r' k ≡ slice_index_or cs k Empty
+  pub shared : (i : ℕ) → has r' i + idle s' i ≡ has r i + idle s i
+  pub total : has_group r' + left s' ≡ has_group r + left s
+  pub kept : (i : ℕ) → has r i + idle s i ≡ 0 → slice_index_or s'.groups.now i no_group ≡ slice_index_or s.groups.now i no_group
+  pub counted : Counted s'
 
 -- a region in which a run can be changed: no group is in it twice, or in it and unused, and the unused ones suffice
-pub record Ready (gs : List Group) (u : Unused) (n : ℕ) (r : Child) (w : Run) : Type 0 where
-  pub low : n ≤ 6
-  pub tight : Tight gs n r
-  pub apart : (i : ℕ) → uses gs n r i + idle gs u i ≤ 1
-  pub few : group_count gs n r + left gs u ≤ capacity gs
-  pub marked : u.mark ≤ capacity gs
+pub record Ready (s : Store) (n : ℕ) (r : Child) (w : Run) : Type 0 where
+  pub tight : Tight s.groups.now n r
+  pub apart : (i : ℕ) → uses s.groups.now n r i + idle s i ≤ 1
+  pub few : group_count s.groups.now n r + left s ≤ capacity s.groups.now
+  pub counted : Counted s
   pub lies : Lies n w
-  pub fits : need_of n (flipped w (solid_at gs n r)) origin ≤ group_count gs n r + left gs u
+  pub fits : need_of n (flipped w (solid_at s.groups.now n r)) origin ≤ group_count s.groups.now n r + left s
 
 -- the region r of level n has become r', which shows p
-pub record Moved (gs : List Group) (u : Unused) (n : ℕ) (r : Child) (p : Cell → Bool) (gs' : List Group) (u' : Unused) (r' : Child) : Type 0 where
-  pub long : length gs' ≡ length gs
-  pub drawn : (c : Cell) → Inside (width n) c → solid_at gs' n r' c ≡ p c
-  pub tight : Tight gs' n r'
-  pub shared : (i : ℕ) → uses gs' n r' i + idle gs' u' i ≡ uses gs n r i + idle gs u i
-  pub total : group_count gs' n r' + left gs' u' ≡ group_count gs n r + left gs u
-  pub kept : (i : ℕ) → uses gs n r i + idle gs u i ≡ 0 → slice_index_or gs' i no_group ≡ slice_index_or gs i no_group
-  pub marked : u'.mark ≤ capacity gs'
+pub record Moved (s : Store) (n : ℕ) (r : Child) (p : Cell → Bool) (s' : Store) (r' : Child) : Type 0 where
+  pub lent : s'.groups.ghost_name ≡ s.groups.ghost_name
+  pub long : length s'.groups.now ≡ length s.groups.now
+  pub drawn : (c : Cell) → Inside (width n) c → solid_at s'.groups.now n r' c ≡ p c
+  pub tight : Tight s'.groups.now n r'
+  pub shared : (i : ℕ) → uses s'.groups.now n r' i + idle s' i ≡ uses s.groups.now n r i + idle s i
+  pub total : group_count s'.groups.now n r' + left s' ≡ group_count s.groups.now n r + left s
+  pub kept : (i : ℕ) → uses s.groups.now n r i + idle s i ≡ 0 → slice_index_or s'.groups.now i no_group ≡ slice_index_or s.groups.now i no_group
+  pub counted : Counted s'
 
 -- the two parts of a run, the lower one and the higher one
 abbrev pub Halves : ℕ → Run → Part → Part → Type 0
-Halves h w low high = (low ≡ part_at h w 0) × (high ≡ part_at h w h)
+Halves h w low high = IsPartAt h w 0 low × IsPartAt h w h high
 
 -- the parts in the order in which they are to change: that whose need grows less comes first
 pub record Ordered (gs : List Group) (n : ℕ) (cs : List Child) (w : Run) (first second : Part) : Type 0 where

@@ -2,9 +2,9 @@
 --
 -- A region of level n is a cube of 2ⁿ cells along each axis. One of level 1 or more has eight children, the regions of half its width. The
 -- box is a region, and so are its children, theirs, and so on down to the single cells, which are the regions of level 0.
-use Rattle.std.specs.Prelude.{ℕ, zero, suc, ◌+◌, ◌*◌, ◌/◌, ◌%◌, Bool, true, false, cond, not, ◌&&◌, ◌||◌, ◌==◌, nat_le}
+use Rattle.std.specs.Prelude.{ℕ, zero, suc, ◌+◌, ◌*◌, ◌/◌, ◌%◌, Bool, true, false, if◌then◌else◌, not, ◌&&◌, ◌||◌, ◌==◌, nat_le}
 use Rattle.block.specs.Drawing.{number}
-use Rattle.octree.specs.declared.cells.Cell.{Cell}
+use Rattle.block.specs.declared.cells.Cell.{Cell}
 
 -- how many cells a region of level n has along each axis
 abbrev pub width : ℕ → ℕ
@@ -13,7 +13,7 @@ width (suc n) = width n + width n
 
 -- the level of a box that has n cells along each axis
 abbrev pub level_of : ℕ → ℕ
-level_of n = cond (n == 2) 1 (cond (n == 4) 2 (cond (n == 8) 3 (cond (n == 16) 4 (cond (n == 32) 5 6))))
+level_of n = if n == 2 then 1 else (if n == 4 then 2 else (if n == 8 then 3 else (if n == 16 then 4 else (if n == 32 then 5 else 6))))
 
 -- where the box begins
 abbrev pub origin : Cell
@@ -37,12 +37,12 @@ all8 p = p 0 && (p 1 && (p 2 && (p 3 && (p 4 && (p 5 && (p 6 && p 7))))))
 
 -- every cell of the region of level n that begins at c is v
 abbrev pub all_are : Bool → ℕ → (Cell → Bool) → Cell → Bool
-all_are v zero d c = cond v (d c) (not (d c))
+all_are v zero d c = if v then d c else not (d c)
 all_are v (suc n) d c = all8 (λ k. all_are v n d (plus c (start_of (width n) k)))
 
 -- 1 where the region has solid cells and empty ones, else 0
 abbrev pub mixed : ℕ → (Cell → Bool) → Cell → ℕ
-mixed n d c = cond (all_are true n d c || all_are false n d c) 0 1
+mixed n d c = if all_are true n d c || all_are false n d c then 0 else 1
 
 -- of the region of level n that begins at c, and the smaller ones in it, how many are mixed; a single cell never is
 abbrev pub need_of : ℕ → (Cell → Bool) → Cell → ℕ

@@ -1,11 +1,11 @@
 -- A tree of regions in groups: which cells it shows, and which groups it uses.
-use Rattle.std.specs.Prelude.{◌≡◌, ℕ, zero, suc, ◌+◌, ◌-◌, ◌*◌, ◌/◌, ◌%◌, ◌≤◌, min, Bool, true, false, cond, List, [], length, replicate, ◌==◌, nat_le, nat_lt, slice_index_or}
-use Rattle.refusals.specs.Sides.{is_side}
-use Rattle.octree.specs.declared.cells.Cell.{Cell}
+use Rattle.std.specs.Prelude.{◌≡◌, ℕ, zero, suc, ◌+◌, ◌-◌, ◌*◌, ◌/◌, ◌%◌, ◌≤◌, min, ⊤, Bool, true, false, if◌then◌else◌, Option, Some, None, List, [], length, replicate, ◌==◌, nat_le, nat_lt, slice_index_or}
+use Rattle.block.specs.declared.cells.Cell.{Cell}
 use Rattle.octree.specs.declared.cells.Child.{Child}
 use Rattle.octree.specs.declared.cells.Child.TheVariants.{Empty, Solid, Split}
 use Rattle.octree.specs.declared.cells.Group.{Group}
-use Rattle.octree.specs.declared.cells.Unused.{Unused}
+use Rattle.octree.specs.declared.cells.GroupId.{GroupId}
+use Rattle.octree.specs.declared.store.Store.{Store}
 use Rattle.octree.specs.Regions.{width, level_of, start_of, sum8, needed}
 
 -- ---- which cells it shows
@@ -25,7 +25,7 @@ child_at gs r k = slice_index_or (children_of gs r) k Empty
 
 -- 1 in the upper half along an axis, else 0
 abbrev pub upper : ℕ → ℕ → ℕ
-upper h x = cond (nat_lt x h) 0 1
+upper h x = if nat_lt x h then 0 else 1
 
 -- the child that a cell lies in, of a region whose children have h cells along each axis
 abbrev pub which_child : ℕ → Cell → ℕ
@@ -51,12 +51,12 @@ cell_of n k = record { x = k % n; y = k / n % n; z = k / (n * n) }
 
 -- the drawing of the whole box, by cell number
 unfoldable pub shown : ℕ → List Group → Child → ℕ → Bool
-shown n gs r k = cond (nat_lt k (n * n * n)) (solid_at gs (level_of n) r (cell_of n k)) false
+shown n gs r k = if nat_lt k (n * n * n) then solid_at gs (level_of n) r (cell_of n k) else false
 
 -- ---- which groups it uses
 
 abbrev pub one : Bool → ℕ
-one b = cond b 1 0
+one b = if b then 1 else 0
 
 -- 1 where a region has a group, and 1 where that is the group i
 abbrev pub has_group : Child → ℕ
@@ -78,32 +78,46 @@ abbrev pub uses : List Group → ℕ → Child → ℕ → ℕ
 uses gs zero r i = has r i
 uses gs (suc n) r i = has r i + sum8 (λ k. uses gs n (child_at gs r k) i)
 
--- the group that the freed group h names in its first child: the one freed before it
-abbrev pub index_of : Child → ℕ
-index_of Empty = 0
-index_of Solid = 0
-index_of (Split g) = g.index
+-- the group that a child names, if it names one
+abbrev pub group_of : Child → Option GroupId
+group_of Empty = None
+group_of Solid = None
+group_of (Split g) = Some g
 
-abbrev pub freed_before : List Group → ℕ → ℕ
-freed_before gs h = index_of (slice_index_or (slice_index_or gs h no_group).children 0 Empty)
+-- the group that was freed before the freed group g, if there is one: g names it in its first child
+abbrev pub freed_before : List Group → GroupId → Option GroupId
+freed_before gs g = group_of (slice_index_or (slice_index_or gs g.index no_group).children 0 Empty)
 
--- how often the group i is among the m freed ones, of which h was freed last
-abbrev pub freed_at : List Group → ℕ → ℕ → ℕ → ℕ
-freed_at gs zero h i = 0
-freed_at gs (suc m) h i = one (h == i) + freed_at gs m (freed_before gs h) i
+-- the list of freed groups from l on has m groups
+abbrev pub FreedList : List Group → ℕ → Option GroupId → Type 0
+FreedList gs zero None = ⊤
+FreedList gs zero (Some g) = ⊥
+FreedList gs (suc m) None = ⊥
+FreedList gs (suc m) (Some g) = FreedList gs m (freed_before gs g)
+
+-- how often the group i is among the m freed ones, of which l was freed last
+abbrev pub freed_at : List Group → ℕ → Option GroupId → ℕ → ℕ
+freed_at gs zero l i = 0
+freed_at gs (suc m) None i = 0
+freed_at gs (suc m) (Some g) i = one (g.index == i) + freed_at gs m (freed_before gs g) i
 
 -- how often the group i is unused: freed, or at the mark or above it
-abbrev pub idle : List Group → Unused → ℕ → ℕ
-idle gs u i = freed_at gs u.freed u.last.index i + one (nat_le u.mark i)
+abbrev pub idle : Store → ℕ → ℕ
+idle s i = freed_at s.groups.now s.freed s.last i + one (nat_le s.mark i)
 
 -- how many groups can be named: the mark is a number of 32 bits
 abbrev pub capacity : List Group → ℕ
 capacity gs = min (length gs) 4294967295
 
--- A tree for a box of one of the six sides: every group is in it once or unused once, and there are as many in it as its drawing needs.
-pub record Whole (n : ℕ) (gs : List Group) (r : Child) (u : Unused) : Type 0 where
-  pub a_side : is_side n ≡ true
-  pub exact : group_count gs (level_of n) r ≡ needed n (shown n gs r)
-  pub once : (i : ℕ) → uses gs (level_of n) r i + idle gs u i ≡ 1
-  pub count : group_count gs (level_of n) r + u.freed ≡ u.mark
-  pub marked : u.mark ≤ capacity gs
+-- the unused groups can be counted: the mark lies within those that can be named, and the list of the freed ones below it is as long as told
+pub record Counted (s : Store) : Type 0 where
+  pub marked : s.mark ≤ capacity s.groups.now
+  pub below : s.freed ≤ s.mark
+  pub listed : FreedList s.groups.now s.freed s.last
+
+-- a tree for a box that has n cells along each axis: every group is in it once or unused once, and there are as many in it as its drawing needs.
+pub record Whole (n : ℕ) (s : Store) (r : Child) : Type 0 where
+  pub exact : group_count s.groups.now (level_of n) r ≡ needed n (shown n s.groups.now r)
+  pub once : (i : ℕ) → uses s.groups.now (level_of n) r i + idle s i ≡ 1
+  pub count : group_count s.groups.now (level_of n) r + s.freed ≡ s.mark
+  pub counted : Counted s

@@ -6,10 +6,10 @@ ghost use Rattle.std.specs.Prelude.{◌≡◌, true, length};
 ghost use Rattle.refusals.specs.BoxSides.{cells_of};
 ghost use Rattle.block.specs.Drawing.{blank, changed, in_box, in_row, number};
 ghost use Rattle.octree.specs.Laws.{blank_fits, shown_fits, shown_within, tied_on, tied_same};
-ghost use Rattle.octree.specs.Meaning.{Sound, Tied, drawing_of, edge_of, fits_in, groups_of};
+ghost use Rattle.octree.specs.Meaning.{Kept, Sound, Tied, drawing_of, edge_of, fits_in, groups_of};
 ghost use Rattle.octree.specs.Regions.{room};
 
-use block::{Block, is_in_box, is_in_row};
+use block::{Block, Cell, Run};
 use refusals::{BoxSide, Refusal};
 
 mod cells;
@@ -18,94 +18,71 @@ mod store;
 mod tree;
 mod turn;
 
+use cells::Child;
 pub use cells::Group;
-use cells::{Cell, Child, Run, Unused};
-use region::{level_of, side_of};
+use region::Level;
+use store::Store;
 use tree::{look, plan};
 use turn::turn;
 
 /// A box of N × N × N cells over any number of lent groups. A drawing fits if no more of its regions of side 2 or more have both solid and
-/// empty cells than there are groups. The groups that no region uses are those from a mark on, which were never used, and those of a list
-/// of freed ones below it.
+/// empty cells than there are groups.
 #[derive(Drop)]
 pub struct Octree<'a> {
-    // N, as a number: a layer over a type that holds a `&mut` beside a `BoxSide`, which has a ghost field, gets no generated proof.
-    edge: usize,
-    groups: &'a mut [Group],
+    side: BoxSide,
+    store: Store<'a>,
     root: Child,
-    unused: Unused,
 }
 
 impl<'a> Octree<'a> {
     /// A blank octree. Nothing is written into the groups, and what they hold does not matter.
+    #[tactic(auto, using(crate::proofs::Wholes::fresh_blank))]
     pub fn new(side: BoxSide, groups: &'a mut [Group]) -> Octree<'a>
         ensures sound { Sound result }
         ensures edge { edge_of result ≡ cells_of side }
-        ensures loan { result.groups.ghost_name ≡ groups.entry.ghost_name }
+        ensures loan { result.store.groups.ghost_name ≡ groups.entry.ghost_name }
         ensures untouched { groups_of result ≡ groups.old }
         ensures blank { drawing_of result ≡ blank }
         ensures fits { fits_in result ≡ room (cells_of side) (length groups.old) }
     {
         Octree {
-            edge: side.cells(),
-            groups,
+            side,
+            store: Store::new(groups),
             root: Child::Empty,
-            unused: Unused::all(),
         }
     }
 
     /// Whether a cell of the box is solid.
-    fn is_solid(&self, x: usize, y: usize, z: usize) -> bool
+    #[tactic(auto, using(crate::proofs::Wholes::whole_readable, crate::proofs::Wholes::whole_look))]
+    fn is_solid(&self, cell: Cell) -> bool
         requires sound { Sound self.now }
-        requires inside { in_box (edge_of self.now) x y z ≡ true }
-        ensures { result ≡ drawing_of self.now (number (edge_of self.now) x y z) }
+        requires inside { in_box (edge_of self.now) cell.x cell.y cell.z ≡ true }
+        ensures { result ≡ drawing_of self.now (number (edge_of self.now) cell.x cell.y cell.z) }
     {
-        look(
-            self.groups,
-            self.root,
-            level_of(self.edge),
-            Cell { x, y, z },
-        )
+        look(&self.store, self.root, Level::of_box(self.side), cell)
     }
 
-    /// Whether the drawing fits with the cells from `l` up to, and without, `r` of the row (y, z) changed.
-    fn takes(&self, y: usize, z: usize, l: usize, r: usize) -> bool
+    /// Whether the drawing fits with the cells of a run changed.
+    #[tactic(auto, using(crate::proofs::Wholes::whole_readable, crate::proofs::Wholes::whole_lies))]
+    fn takes(&self, run: Run) -> bool
         requires sound { Sound self.now }
-        requires inside { in_row (edge_of self.now) y z l r ≡ true }
-        ensures { result ≡ fits_in self.now (changed (edge_of self.now) (drawing_of self.now) y z l r) }
+        requires inside { in_row (edge_of self.now) run ≡ true }
+        ensures { result ≡ fits_in self.now (changed (edge_of self.now) (drawing_of self.now) run) }
     {
-        let run = Run {
-            from: l,
-            to: r,
-            y,
-            z,
-        };
-        let change = plan(self.groups, self.root, level_of(self.edge), run);
-        self.unused.cover(self.groups, change)
+        let change = plan(&self.store, self.root, Level::of_box(self.side), run);
+        self.store.cover(change)
     }
 
-    /// Changes the cells from `l` up to, and without, `r` of the row (y, z).
-    fn change(&mut self, y: usize, z: usize, l: usize, r: usize)
+    /// Changes the cells of a run.
+    #[tactic(auto, using(crate::proofs::Wholes::whole_drawn))]
+    fn change(&mut self, run: Run)
         requires sound { Sound self.old }
-        requires inside { in_row (edge_of self.old) y z l r ≡ true }
-        requires fits { fits_in self.old (changed (edge_of self.old) (drawing_of self.old) y z l r) ≡ true }
-        ensures kept { Sound self.new }
-        ensures same_loans { Tied self.old self.new }
-        ensures same_side { edge_of self.new ≡ edge_of self.old }
-        ensures same_fits { fits_in self.new ≡ fits_in self.old }
-        ensures drawn { drawing_of self.new ≡ changed (edge_of self.old) (drawing_of self.old) y z l r }
+        requires inside { in_row (edge_of self.old) run ≡ true }
+        requires fits { fits_in self.old (changed (edge_of self.old) (drawing_of self.old) run) ≡ true }
+        ensures kept { Kept self.old self.new }
+        ensures drawn { drawing_of self.new ≡ changed (edge_of self.old) (drawing_of self.old) run }
     {
-        let run = Run {
-            from: l,
-            to: r,
-            y,
-            z,
-        };
-        let level = level_of(self.edge);
-        let root = self.root;
-        let mut unused = self.unused;
-        self.root = turn(self.groups, &mut unused, root, level, run);
-        self.unused = unused;
+        self.root = turn(&mut self.store, self.root, Level::of_box(self.side), run);
     }
 }
 
@@ -127,29 +104,29 @@ impl<'a> Block for Octree<'a> {
 
     ghost blank_fits = { λ o. blank_fits (edge_of o) (length (groups_of o)) };
 
-    ghost present_fits = { λ o h. shown_fits (edge_of o) (groups_of o) o.root o.unused h };
+    ghost present_fits = { λ o. shown_fits (edge_of o) o.store o.root };
 
     ghost within = { λ o _. shown_within (edge_of o) (groups_of o) o.root };
 
     fn side(&self) -> BoxSide {
-        side_of(self.edge)
+        self.side
     }
 
-    fn look(&self, x: usize, y: usize, z: usize) -> Result<bool, Refusal> {
-        if !is_in_box(self.edge, x, y, z) {
+    fn look(&self, cell: Cell) -> Result<bool, Refusal> {
+        if !cell.is_in_box(self.side.cells()) {
             return Err(Refusal::OffBox);
         }
-        Ok(self.is_solid(x, y, z))
+        Ok(self.is_solid(cell))
     }
 
-    fn flip(&mut self, y: usize, z: usize, l: usize, r: usize) -> Result<(), Refusal> {
-        if !is_in_row(self.edge, y, z, l, r) {
+    fn flip(&mut self, run: Run) -> Result<(), Refusal> {
+        if !run.is_in_row(self.side.cells()) {
             return Err(Refusal::OffBox);
         }
-        if !self.takes(y, z, l, r) {
+        if !self.takes(run) {
             return Err(Refusal::NoSand);
         }
-        self.change(y, z, l, r);
+        self.change(run);
         Ok(())
     }
 }

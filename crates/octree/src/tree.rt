@@ -1,37 +1,28 @@
 //! What a region holds, by its groups: its children, its cells, and what changing a run would do to it.
 
-ghost use Rattle.std.specs.Prelude.{◌≡◌, ℕ, ◌+◌, ◌-◌, ◌<◌, ◌≤◌, length, slice_index_or};
+ghost use Rattle.std.specs.Prelude.{◌≡◌, ℕ, suc, ◌<◌, ◌≤◌, slice_index_or};
 ghost use Rattle.octree.specs.declared.cells.Child.TheVariants.{Empty};
 ghost use Rattle.octree.specs.declared.cells.Kind.TheVariants.{AllEmpty};
-ghost use Rattle.octree.specs.Trees.{children_of, no_group, solid_at};
+ghost use Rattle.octree.specs.Trees.{children_of, solid_at};
 ghost use Rattle.octree.specs.OnTheWay.{Lies, Ordered, Planned, Readable, There, blend, both, kind_of, turned_over, wants};
 
-use crate::cells::{Cell, Change, Child, Group, GroupId, Kind, Part, Run};
-use crate::region::{child_of, halves, inner, width_of};
-
-/// A group, read whole.
-pub(crate) fn read(groups: &[Group], id: GroupId) -> Group
-    requires { id.index < length groups.now }
-    ensures { result ≡ slice_index_or groups.now id.index no_group }
-{
-    groups[id.index as usize]
-}
+use crate::cells::{Change, Child, Kind, Part};
+use crate::region::{Level, child_of, halves, inner};
+use crate::store::Store;
+use block::{Cell, Run};
 
 impl Kind {
     /// What two regions hold together.
     fn both(self, other: Kind) -> Kind
         ensures { result ≡ both self other }
     {
-        match (self, other) {
-            (Kind::AllEmpty, Kind::AllEmpty) => Kind::AllEmpty,
-            (Kind::AllSolid, Kind::AllSolid) => Kind::AllSolid,
-            _ => Kind::Mixed,
-        }
+        if self == other { self } else { Kind::Mixed }
     }
 
     /// How many groups a region of this kind has for itself.
     fn groups(self) -> usize
-        ensures { (result ≡ wants self) × (result ≤ 1) }
+        ensures wants { result ≡ wants self }
+        ensures most { result ≤ 1 }
     {
         match self {
             Kind::AllEmpty | Kind::AllSolid => 0,
@@ -63,14 +54,14 @@ impl Child {
     }
 
     /// The eight children of the region.
-    pub(crate) fn children(self, groups: &[Group]) -> [Child; 8]
-        requires { There groups.now self }
-        ensures { result ≡ children_of groups.now self }
+    pub(crate) fn children(self, store: &Store<'_>) -> [Child; 8]
+        requires { There store.now.groups.now self }
+        ensures { result ≡ children_of store.now.groups.now self }
     {
         match self {
             Child::Empty => [Child::Empty; 8],
             Child::Solid => [Child::Solid; 8],
-            Child::Split(id) => read(groups, id).children,
+            Child::Split(id) => store.group(id).children,
         }
     }
 }
@@ -79,14 +70,11 @@ impl Child {
 pub(crate) fn kinds(children: [Child; 8]) -> [Kind; 8]
     ensures { (k : ℕ) → k < 8 → slice_index_or result k AllEmpty ≡ kind_of (slice_index_or children k Empty) }
 {
-    let mut kinds = [Kind::Mixed; 8];
-    for k in 0..8 {
-        kinds[k] = children[k].kind();
-    }
-    kinds
+    children.map(|c| c.kind())
 }
 
 /// What eight children hold together.
+// Spelled out: a fold over the eight would be no shorter, and its proof would turn on the order of the steps.
 pub(crate) fn blended(kinds: [Kind; 8]) -> Kind
     ensures { result ≡ blend (λ k. slice_index_or kinds k AllEmpty) }
 {
@@ -95,46 +83,51 @@ pub(crate) fn blended(kinds: [Kind; 8]) -> Kind
 }
 
 /// Whether a cell of a region is solid.
-pub(crate) fn look(groups: &[Group], region: Child, level: usize, cell: Cell) -> bool
-    requires { Readable groups.now level region }
-    ensures { result ≡ solid_at groups.now level region cell }
+// `look`, `plan` and `turn` call themselves, the level falling, as the table in docs/DECISIONS.md names them.
+#[tactic(auto, using(crate::proofs::Reading::readable_there, crate::proofs::Reading::readable_part, crate::proofs::Reading::split_above, crate::proofs::Trees::leaf_shows))]
+pub(crate) fn look(store: &Store<'_>, region: Child, level: Level, cell: Cell) -> bool
+    requires { Readable store.now.groups.now level.number region }
+    ensures { result ≡ solid_at store.now.groups.now level.number region cell }
 {
     match region {
         Child::Empty => false,
         Child::Solid => true,
         Child::Split(_) => {
-            let children = region.children(groups);
-            let half = width_of(level - 1);
+            let children = region.children(store);
+            let below = level.below();
+            let half = below.width();
             let child = child_of(half, cell);
-            look(groups, children[child], level - 1, inner(half, child, cell))
+            look(store, children[child], below, inner(half, child, cell))
         }
     }
 }
 
 /// What changing a run would do to a region.
-pub(crate) fn plan(groups: &[Group], region: Child, level: usize, run: Run) -> Change
-    requires readable { Readable groups.now level region }
-    requires lies { Lies level run }
-    ensures { Planned groups.now level region run result }
+#[tactic(auto, using(crate::proofs::Places::width_low, crate::proofs::Reading::readable_there))]
+pub(crate) fn plan(store: &Store<'_>, region: Child, level: Level, run: Run) -> Change
+    requires readable { Readable store.now.groups.now level.number region }
+    requires lies { Lies level.number run }
+    ensures { Planned store.now.groups.now level.number region run result }
 {
-    if run.from >= run.to {
+    if run.start >= run.end {
         return Change {
             kind: region.kind(),
             before: 0,
             after: 0,
         };
     }
-    if level == 0 {
+    if level.is_cell() {
         return Change {
             kind: region.turned_over().kind(),
             before: 0,
             after: 0,
         };
     }
-    let children = region.children(groups);
-    let (low, high) = halves(level, run);
-    let lower = plan(groups, children[low.child], level - 1, low.run);
-    let higher = plan(groups, children[high.child], level - 1, high.run);
+    let children = region.children(store);
+    let below = level.below();
+    let (low, high) = halves(below, run);
+    let lower = plan(store, children[low.child], below, low.run);
+    let higher = plan(store, children[high.child], below, high.run);
     let mut kinds = kinds(children);
     kinds[low.child] = lower.kind;
     kinds[high.child] = higher.kind;
@@ -147,22 +140,21 @@ pub(crate) fn plan(groups: &[Group], region: Child, level: usize, run: Run) -> C
 }
 
 /// The two parts of a run in the children of a region, in the order in which to change them: that whose need grows less comes first, so
-/// that the groups which it frees are there for the other.
+/// that the groups which it frees are there for the other. The level is that of the children.
+#[tactic(auto, using(crate::proofs::Places::width_low, crate::proofs::Planning::part_lies_in))]
 pub(crate) fn in_order(
-    groups: &[Group],
+    store: &Store<'_>,
     children: [Child; 8],
-    level: usize,
+    level: Level,
     run: Run,
 ) -> (Part, Part)
-    requires level { (1 ≤ level) × (level ≤ 6) }
-    requires readable { (k : ℕ) → k < 8 → Readable groups.now (level - 1) (slice_index_or children k Empty) }
-    requires lies { Lies level run }
-    ensures order { Ordered groups.now (level - 1) children run result.0 result.1 }
-    ensures within { (result.0.child < 8) × (result.1.child < 8) }
+    requires readable { (k : ℕ) → k < 8 → Readable store.now.groups.now level.number (slice_index_or children k Empty) }
+    requires lies { Lies (suc level.number) run }
+    ensures { Ordered store.now.groups.now level.number children run result.0 result.1 }
 {
     let (low, high) = halves(level, run);
-    let lower = plan(groups, children[low.child], level - 1, low.run);
-    let higher = plan(groups, children[high.child], level - 1, high.run);
+    let lower = plan(store, children[low.child], level, low.run);
+    let higher = plan(store, children[high.child], level, high.run);
     if lower.after + higher.before <= higher.after + lower.before {
         (low, high)
     } else {

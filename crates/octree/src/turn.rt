@@ -3,36 +3,28 @@
 ghost use Rattle.octree.specs.Trees.{solid_at};
 ghost use Rattle.octree.specs.OnTheWay.{Moved, Ready, flipped};
 
-use crate::cells::{Child, Group, Run, Unused};
-use crate::store::settle;
+use crate::cells::Child;
+use crate::region::Level;
+use crate::store::Store;
 use crate::tree::in_order;
+use block::Run;
 
 /// Changes a run of cells in a region, and answers what the region is then. At no time are more groups in use than before or after.
-pub(crate) fn turn(
-    groups: &mut [Group],
-    unused: &mut Unused,
-    region: Child,
-    level: usize,
-    run: Run,
-) -> Child
-    requires { Ready groups.old unused.old level region run }
-    ensures { Moved groups.old unused.old level region (flipped run (solid_at groups.old level region)) groups.new unused.new result }
+#[tactic(auto, using(crate::proofs::Reading::readable_there, crate::proofs::Reading::readable_part, crate::proofs::Turning::ready_readable))]
+pub(crate) fn turn(store: &mut Store<'_>, region: Child, level: Level, run: Run) -> Child
+    requires { Ready store.old level.number region run }
+    ensures { Moved store.old level.number region (flipped run (solid_at store.old.groups.now level.number region)) store.new result }
 {
-    if run.from >= run.to {
+    if run.start >= run.end {
         return region;
     }
-    if level == 0 {
+    if level.is_cell() {
         return region.turned_over();
     }
-    let mut children = region.children(groups);
-    let (first, second) = in_order(groups, children, level, run);
-    children[first.child] = turn(groups, unused, children[first.child], level - 1, first.run);
-    children[second.child] = turn(
-        groups,
-        unused,
-        children[second.child],
-        level - 1,
-        second.run,
-    );
-    settle(groups, unused, region, children)
+    let mut children = region.children(store);
+    let below = level.below();
+    let (first, second) = in_order(store, children, below, run);
+    children[first.child] = turn(store, children[first.child], below, first.run);
+    children[second.child] = turn(store, children[second.child], below, second.run);
+    store.settle(region, children)
 }

@@ -1,10 +1,10 @@
 -- A part as far as it is read: what stands in the trays, and what the lines that are left will add.
-use Rattle.std.proofs.Common.{◌≡◌, ℕ, ◌+◌, ◌-◌, ◌<◌, ◌≤◌, Bool, true, false, cond, ◌&&◌, eqb, List, [], ◌∷◌, ◌++◌, length, take, drop, set, ℤ, Some, None, Ok, Err, Option, sym, refl, ap, ◌∙◌, subst, ⊎_elim, arith, Bor}
+use Rattle.std.proofs.Common.{◌≡◌, ℕ, ◌+◌, ◌-◌, ◌<◌, ◌≤◌, Bool, true, false, cond, ◌&&◌, eqb, List, [], ◌∷◌, ◌++◌, length, take, drop, set, ℤ, Some, None, Ok, Err, Option, sym, refl, ap, ◌∙◌, subst, arith, Bor}
 use Rattle.std.proofs.lemmas.List.{append-nil, append_assoc, take_more_set, drop-set-lt, length-take-le, length-set, take-append-drop, drop-drop}
 use Rattle.geometry.specs.declared.mesh.Point.{Point}
 use Rattle.geometry.specs.declared.mesh.Face.{Face}
 use Rattle.std.specs.Option.{option_map}
-use Rattle.std.proofs.lemmas.Bool.{cases_Bool, cond-true, eqb-false}
+use Rattle.std.proofs.lemmas.Bool.Decides.{nat_tests}
 use Rattle.refusals.specs.declared.Refusal.{Refusal}
 use Rattle.refusals.specs.declared.Refusal.TheVariants.{StrayLine, BadNumber, FullTray}
 use Rattle.refusals.specs.declared.box_side.BoxSide.{BoxSide}
@@ -12,7 +12,7 @@ use Rattle.refusals.specs.BoxSides.{cells_of}
 use Rattle.pattern.specs.declared.state.State.{State}
 use Rattle.pattern.specs.declared.state.State.TheVariants.{Start, Ready, Points, Faces}
 use Rattle.pattern.specs.declared.state.Kind.TheVariants.{Point as KindPoint, Face as KindFace}
-use Rattle.pattern.specs.declared.word.Word.{Word}
+use Rattle.pattern.specs.declared.word.Triple.{Triple}
 use Rattle.pattern.specs.declared.line.Line.{Line}
 use Rattle.pattern.specs.declared.line.Line.TheVariants.{Skip, Side as ASide, Part, PartAndMore, Point as APoint, Face as AFace, Stray}
 use Rattle.pattern.specs.declared.reader.Reader.{Reader}
@@ -99,27 +99,23 @@ at_first w points faces = record {
 -- ---- a line is heard: what is left, by what it says
 
 next_point : (s t : State) → next s KindPoint ≡ Some t → t ≡ Points
-next_point Start t e = let z : ◌≡◌ {A = ℕ} 0 1 = cc in absurd (omega arith)
-next_point Ready t e = let z : ◌≡◌ {A = ℕ} 0 1 = cc in absurd (omega arith)
+next_point Start t e = cc
+next_point Ready t e = cc
 next_point Points t e = cc
-next_point Faces t e = let z : ◌≡◌ {A = ℕ} 0 1 = cc in absurd (omega arith)
+next_point Faces t e = cc
 
 next_face : (s t : State) → next s KindFace ≡ Some t → t ≡ Faces
-next_face Start t e = let z : ◌≡◌ {A = ℕ} 0 1 = cc in absurd (omega arith)
-next_face Ready t e = let z : ◌≡◌ {A = ℕ} 0 1 = cc in absurd (omega arith)
+next_face Start t e = cc
+next_face Ready t e = cc
 next_face Points t e = cc
 next_face Faces t e = cc
 
 -- the trays have room where no fault is found
 roomy : (may numbers : Bool) (n room : ℕ)
     → cond may (cond numbers (cond (eqb room 0) (Some (FullTray n)) None) (Some (BadNumber n))) (Some (StrayLine n)) ≡ None → 0 < room
-roomy true true n room e =
-    ⊎_elim
-    (λ (z : eqb room 0 ≡ true). let f = cond-true (eqb room 0) (Some (FullTray n)) None z in let y : ◌≡◌ {A = ℕ} 0 1 = cc in absurd (omega arith))
-    (λ (z : eqb room 0 ≡ false). let k = eqb-false room 0 z in omega arith)
-    (cases_Bool (eqb room 0))
-roomy true false n room e = let z : ◌≡◌ {A = ℕ} 0 1 = cc in absurd (omega arith)
-roomy false numbers n room e = let z : ◌≡◌ {A = ℕ} 0 1 = cc in absurd (omega arith)
+roomy true true n room e = grind (arith, nat_tests)
+roomy true false n room e = cc
+roomy false numbers n room e = cc
 
 -- a line that is neither a point nor a face nor named part
 abbrev pub Other : Line → Type 0
@@ -127,17 +123,17 @@ Other Skip = Unit {0}
 Other (ASide a) = Unit {0}
 Other Part = ⊥
 Other PartAndMore = ⊥
-Other (APoint a b c) = ⊥
-Other (AFace a b c) = ⊥
+Other (APoint t) = ⊥
+Other (AFace t) = ⊥
 Other Stray = Unit {0}
 
-pub other_line : (l : Line) → GoesOn l → ((a b c : Word) → l ≡ APoint a b c → ⊥) → ((a b c : Word) → l ≡ AFace a b c → ⊥) → Other l
+pub other_line : (l : Line) → GoesOn l → ((t : Triple) → l ≡ APoint t → ⊥) → ((t : Triple) → l ≡ AFace t → ⊥) → Other l
 other_line Skip g p f = tt
 other_line (ASide a) g p f = tt
 other_line Part g p f = g
 other_line PartAndMore g p f = g
-other_line (APoint a b c) g p f = p a b c refl
-other_line (AFace a b c) g p f = f a b c refl
+other_line (APoint t) g p f = p t refl
+other_line (AFace t) g p f = f t refl
 other_line Stray g p f = tt
 
 module _ (w : Outcome) (points₀ : List Point) (faces₀ : List Face) (i j : ℕ) (points : List Point) (faces : List Face) (before m : Reader) where
@@ -164,12 +160,21 @@ module _ (w : Outcome) (points₀ : List Point) (faces₀ : List Face) (i j : �
       → Left (ahead before) → Done w points₀ faces₀ i j points faces (over (record { state = Ready; side = (stand_of before).side; left = (stand_of before).left }))
   over_now e so = done w points₀ faces₀ i j points faces _ (subst (λ (o : Outcome). Left o) (e p f (stand_of before).state (stand_of before).side) so)
 
-  module _ (a b c : Word) (n : Reader) where
+  module _ (l : Line) (t : Triple) (n : Reader) where
+    abbrev a : List ℕ
+    a = bytes_of t.first
+
+    abbrev b : List ℕ
+    b = bytes_of t.second
+
+    abbrev c : List ℕ
+    c = bytes_of t.third
+
     abbrev a_point : Point
-    a_point = record { x = value (bytes_of a); y = value (bytes_of b); z = value (bytes_of c) }
+    a_point = record { x = value a; y = value b; z = value c }
 
     abbrev a_face : Face
-    a_face = record { a = value (bytes_of a); b = value (bytes_of b); c = value (bytes_of c) }
+    a_face = record { a = value a; b = value b; c = value c }
 
     -- with the line's own fault
     abbrev with_point : Option Refusal → Outcome
@@ -178,15 +183,15 @@ module _ (w : Outcome) (points₀ : List Point) (faces₀ : List Face) (i j : �
     abbrev with_face : Option Refusal → Outcome
     with_face o = unless o (add_face a_face (body p (f - 1) Faces (stand_of m).side (stand_of m).left))
 
-    pub point_fault : (q : Refusal) → LineHeard before m (APoint a b c) → EntryRead m n KindPoint p a b c (Err q) → Left (ahead before)
+    pub point_fault : (q : Refusal) → l ≡ APoint t → LineHeard before m l → EntryRead m n KindPoint p t (Err q) → Left (ahead before)
         → Done w points₀ faces₀ i j points faces (fault q)
-    point_fault q h r so =
-        done w points₀ faces₀ i j points faces _ (subst (λ (o : Option Refusal). Left (with_point o)) r (heard (APoint a b c) h so))
+    point_fault q is_so h r so =
+        done w points₀ faces₀ i j points faces _ (subst (λ (o : Option Refusal). Left (with_point o)) r (heard (APoint t) (subst (λ (l : Line). LineHeard before m l) is_so h) so))
 
-    pub face_fault : (q : Refusal) → LineHeard before m (AFace a b c) → EntryRead m n KindFace f a b c (Err q) → Left (ahead before)
+    pub face_fault : (q : Refusal) → l ≡ AFace t → LineHeard before m l → EntryRead m n KindFace f t (Err q) → Left (ahead before)
         → Done w points₀ faces₀ i j points faces (fault q)
-    face_fault q h r so =
-        done w points₀ faces₀ i j points faces _ (subst (λ (o : Option Refusal). Left (with_face o)) r (heard (AFace a b c) h so))
+    face_fault q is_so h r so =
+        done w points₀ faces₀ i j points faces _ (subst (λ (o : Option Refusal). Left (with_face o)) r (heard (AFace t) (subst (λ (l : Line). LineHeard before m l) is_so h) so))
 
     -- the reader after the line's numbers are read
     abbrev ReadOn : ℕ → ℕ → List Point → List Face → ℕ → ℕ → State → Type 0
@@ -201,32 +206,32 @@ module _ (w : Outcome) (points₀ : List Point) (faces₀ : List Face) (i j : �
             → body p' f' s (option_map cells_of d) (spoken k (lines x.now)) ≡ body p' f' t (option_map cells_of e) (spoken l (lines y.now))
         same a b c d = cc
 
-    pub point_more : (x y z u v t : ℤ) → x ≡ u → y ≡ v → z ≡ t → LineHeard before m (APoint a b c) → EntryRead m n KindPoint p a b c (Ok (u, v, t)) → Left (ahead before)
+    pub point_more : (x y z x₀ y₀ z₀ : ℤ) → x ≡ x₀ → y ≡ y₀ → z ≡ z₀ → l ≡ APoint t → LineHeard before m l → EntryRead m n KindPoint p t (Ok (x₀, y₀, z₀)) → Left (ahead before)
         → SoFar w points₀ faces₀ (i + 1) j (set points i (record { x = x; y = y; z = z })) faces
         (body (length (set points i (record { x = x; y = y; z = z })) - (i + 1)) f (stand_of n).state (stand_of n).side (stand_of n).left)
-    point_more x y z u v t eu ev et h r so =
-        let room = roomy (may m.state KindPoint) (is_number (bytes_of a) && is_number (bytes_of b) && is_number (bytes_of c)) m.line p r.0 in
+    point_more x y z x₀ y₀ z₀ eu ev et is_so h r so =
+        let room = roomy (may m.state KindPoint) (is_number a && is_number b && is_number c) m.line p r.0 in
         let tray = set points i (record { x = x; y = y; z = z }) in
         let len = length-set points i (record { x = x; y = y; z = z }) in
         let less : p - 1 ≡ length tray - (i + 1) = omega arith in
         let is : a_point ≡ record { x = x; y = y; z = z } = let ex = r.1 in let ey = r.2 in let ez = r.3 in cc in
         let to = more_point w points₀ faces₀ i j points faces a_point (body (p - 1) f Points (stand_of m).side (stand_of m).left) (omega arith)
-        (subst (λ (o : Option Refusal). Left (with_point o)) r.0 (heard (APoint a b c) h so)) in
+        (subst (λ (o : Option Refusal). Left (with_point o)) r.0 (heard (APoint t) (subst (λ (l : Line). LineHeard before m l) is_so h) so)) in
         on (i + 1) j tray faces (length tray - (i + 1)) f (sym (next_point m.state n.state r.4)) r.5 r.6 r.7
         (subst (λ (k : ℕ). ReadOn (i + 1) j tray faces k f Points) less
         (subst (λ (v : Point). ReadOn (i + 1) j (set points i v) faces (p - 1) f Points) is to))
 
-    pub face_more : (x y z u v t : ℤ) → x ≡ u → y ≡ v → z ≡ t → LineHeard before m (AFace a b c) → EntryRead m n KindFace f a b c (Ok (u, v, t)) → Left (ahead before)
+    pub face_more : (x y z x₀ y₀ z₀ : ℤ) → x ≡ x₀ → y ≡ y₀ → z ≡ z₀ → l ≡ AFace t → LineHeard before m l → EntryRead m n KindFace f t (Ok (x₀, y₀, z₀)) → Left (ahead before)
         → SoFar w points₀ faces₀ i (j + 1) points (set faces j (record { a = x; b = y; c = z }))
         (body p (length (set faces j (record { a = x; b = y; c = z })) - (j + 1)) (stand_of n).state (stand_of n).side (stand_of n).left)
-    face_more x y z u v t eu ev et h r so =
-        let room = roomy (may m.state KindFace) (is_number (bytes_of a) && is_number (bytes_of b) && is_number (bytes_of c)) m.line f r.0 in
+    face_more x y z x₀ y₀ z₀ eu ev et is_so h r so =
+        let room = roomy (may m.state KindFace) (is_number a && is_number b && is_number c) m.line f r.0 in
         let tray = set faces j (record { a = x; b = y; c = z }) in
         let len = length-set faces j (record { a = x; b = y; c = z }) in
         let less : f - 1 ≡ length tray - (j + 1) = omega arith in
         let is : a_face ≡ record { a = x; b = y; c = z } = let ex = r.1 in let ey = r.2 in let ez = r.3 in cc in
         let to = more_face w points₀ faces₀ i j points faces a_face (body p (f - 1) Faces (stand_of m).side (stand_of m).left) (omega arith)
-        (subst (λ (o : Option Refusal). Left (with_face o)) r.0 (heard (AFace a b c) h so)) in
+        (subst (λ (o : Option Refusal). Left (with_face o)) r.0 (heard (AFace t) (subst (λ (l : Line). LineHeard before m l) is_so h) so)) in
         on i (j + 1) points tray p (length tray - (j + 1)) (sym (next_face m.state n.state r.4)) r.5 r.6 r.7
         (subst (λ (k : ℕ). ReadOn i (j + 1) points tray p k Faces) less
         (subst (λ (v : Face). ReadOn i (j + 1) points (set faces j v) p (f - 1) Faces) is to))
@@ -236,6 +241,6 @@ module _ (w : Outcome) (points₀ : List Point) (faces₀ : List Face) (i j : �
   stray_fault (ASide a) o h so = done w points₀ faces₀ i j points faces _ (heard (ASide a) h so)
   stray_fault Part o h so = absurd o
   stray_fault PartAndMore o h so = absurd o
-  stray_fault (APoint a b c) o h so = absurd o
-  stray_fault (AFace a b c) o h so = absurd o
+  stray_fault (APoint t) o h so = absurd o
+  stray_fault (AFace t) o h so = absurd o
   stray_fault Stray o h so = done w points₀ faces₀ i j points faces _ (heard Stray h so)

@@ -1,44 +1,47 @@
--- A loop's step and end over a text that is cut at a byte.
-use Rattle.std.proofs.Common.{◌≡◌, ℕ, ◌+◌, ◌<◌, ◌≤◌, eqb, List, [], ◌∷◌, ◌++◌, length, get_or, take, drop, sym, ap, ◌∙◌}
-use Rattle.std.proofs.lemmas.List.{at_drop_more, drop_more, drop_all, take_more, append_assoc, append-nil}
-use Rattle.std.proofs.lemmas.Bool.{eq-eqb, ne_eqb, cond-true, cond-false}
-use Rattle.pattern.specs.Read.{before, from, past_spaces}
+-- A text that is cut at a byte.
+use Rattle.std.proofs.Common.{◌≡◌, ℕ, suc, ◌+◌, ◌==◌, Bool, true, false, cond, not, eqb, List, [], ◌∷◌, take, drop, refl, ap, arith}
+use Rattle.std.specs.List.{position_or_len, prefix_len}
 
-module _ (bs : List ℕ) (i : ℕ) where
-  abbrev c : ℕ
-  c = get_or bs i 0
+-- the bytes before the first `stop`, and those from it on
+abbrev pub before : ℕ → List ℕ → List ℕ
+before stop [] = []
+before stop (c ∷ cs) = cond (eqb c stop) [] (c ∷ before stop cs)
 
-  abbrev cs : List ℕ
-  cs = drop (i + 1) bs
+abbrev pub from : ℕ → List ℕ → List ℕ
+from stop [] = []
+from stop (c ∷ cs) = cond (eqb c stop) (c ∷ cs) (from stop cs)
 
-  pub past_more : i < length bs → c ≡ 32 → past_spaces cs ≡ past_spaces (drop i bs)
-  past_more h e = sym (at_drop_more past_spaces bs i 0 h ∙ cond-true (eqb c 32) (past_spaces cs) (c ∷ cs) (eq-eqb c 32 e))
+-- the bytes without the spaces in front
+abbrev pub past_spaces : List ℕ → List ℕ
+past_spaces [] = []
+past_spaces (c ∷ cs) = cond (eqb c 32) (past_spaces cs) (c ∷ cs)
 
-  pub past_stop : i < length bs → (c ≡ 32 → ⊥) → past_spaces (drop i bs) ≡ drop i bs
-  past_stop h n = at_drop_more past_spaces bs i 0 h ∙ cond-false (eqb c 32) (past_spaces cs) (c ∷ cs) (ne_eqb c 32 n) ∙ sym (drop_more bs i 0 h)
+one_more : (n : ℕ) → 1 + n ≡ suc n
+one_more n = omega arith
 
-  pub past_end : length bs ≤ i → past_spaces (drop i bs) ≡ drop i bs
-  past_end h = ap past_spaces (drop_all i bs h) ∙ sym (drop_all i bs h)
+-- one byte more in front, at which the text is cut, or else n bytes behind it
+module _ (c : ℕ) (cs : List ℕ) (n : ℕ) where
+  before_one : (b : Bool) (xs : List ℕ) → take n cs ≡ xs → take (cond (not b) (1 + n) 0) (c ∷ cs) ≡ cond b [] (c ∷ xs)
+  before_one true xs e = refl
+  before_one false xs e = rw (one_more n) (ap (λ ys. c ∷ ys) e)
 
-  module _ (stop : ℕ) where
-    pub before_more : i < length bs → (c ≡ stop → ⊥) → take (i + 1) bs ++ before stop cs ≡ take i bs ++ before stop (drop i bs)
-    before_more h n =
-        ap (λ xs. xs ++ before stop cs) (take_more bs i 0 h) ∙ append_assoc (take i bs) (c ∷ []) (before stop cs)
-        ∙ ap (λ xs. take i bs ++ xs) (sym (at_drop_more (before stop) bs i 0 h ∙ cond-false (eqb c stop) [] (c ∷ before stop cs) (ne_eqb c stop n)))
+  from_one : (b : Bool) (xs : List ℕ) → drop n cs ≡ xs → drop (cond (not b) (1 + n) 0) (c ∷ cs) ≡ cond b (c ∷ cs) xs
+  from_one true xs e = refl
+  from_one false xs e = rw (one_more n) e
 
-    pub before_stop : i < length bs → c ≡ stop → take i bs ≡ take i bs ++ before stop (drop i bs)
-    before_stop h e =
-        sym (append-nil (take i bs))
-        ∙ ap (λ xs. take i bs ++ xs) (sym (at_drop_more (before stop) bs i 0 h ∙ cond-true (eqb c stop) [] (c ∷ before stop cs) (eq-eqb c stop e)))
+pub before_is : (stop : ℕ) (bs : List ℕ) → take (position_or_len (λ b. b == stop) bs) bs ≡ before stop bs
+before_is stop [] = refl
+before_is stop (c ∷ cs) = before_one c cs (position_or_len (λ b. b == stop) cs) (eqb c stop) (before stop cs) (before_is stop cs)
 
-    pub before_end : length bs ≤ i → take i bs ≡ take i bs ++ before stop (drop i bs)
-    before_end h = sym (append-nil (take i bs)) ∙ ap (λ xs. take i bs ++ xs) (sym (ap (before stop) (drop_all i bs h)))
+pub from_is : (stop : ℕ) (bs : List ℕ) → drop (position_or_len (λ b. b == stop) bs) bs ≡ from stop bs
+from_is stop [] = refl
+from_is stop (c ∷ cs) = from_one c cs (position_or_len (λ b. b == stop) cs) (eqb c stop) (from stop cs) (from_is stop cs)
 
-    pub from_more : i < length bs → (c ≡ stop → ⊥) → from stop cs ≡ from stop (drop i bs)
-    from_more h n = sym (at_drop_more (from stop) bs i 0 h ∙ cond-false (eqb c stop) (c ∷ cs) (from stop cs) (ne_eqb c stop n))
-
-    pub from_stop : i < length bs → c ≡ stop → drop i bs ≡ from stop (drop i bs)
-    from_stop h e = drop_more bs i 0 h ∙ sym (at_drop_more (from stop) bs i 0 h ∙ cond-true (eqb c stop) (c ∷ cs) (from stop cs) (eq-eqb c stop e))
-
-    pub from_end : length bs ≤ i → drop i bs ≡ from stop (drop i bs)
-    from_end h = drop_all i bs h ∙ sym (ap (from stop) (drop_all i bs h))
+pub past_is : (bs : List ℕ) → drop (prefix_len (λ b. b == 32) bs) bs ≡ past_spaces bs
+past_is [] = refl
+past_is (c ∷ cs) = by_case (eqb c 32) (past_is cs)
+  where
+    by_case : (b : Bool) {xs : List ℕ} → drop (prefix_len (λ b. b == 32) cs) cs ≡ xs
+        → drop (cond b (1 + prefix_len (λ b. b == 32) cs) 0) (c ∷ cs) ≡ cond b xs (c ∷ cs)
+    by_case true e = rw (one_more (prefix_len (λ b. b == 32) cs)) e
+    by_case false e = refl

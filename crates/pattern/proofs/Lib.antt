@@ -1,5 +1,4 @@
 pub mod Cuts
-pub mod Values
 pub mod WordLaws
 pub mod LineLaws
 pub mod BodyLaws

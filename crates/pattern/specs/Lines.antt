@@ -1,5 +1,5 @@
 -- What a line says, by its first word and by how many words it has.
-use Rattle.std.specs.Prelude.{ℕ, ◌+◌, Bool, true, false, cond, List, [], ◌∷◌, Some, None, codes, Option, ◌==◌}
+use Rattle.std.specs.Prelude.{ℕ, ◌+◌, Bool, true, false, if◌then◌else◌, List, [], ◌∷◌, Some, None, codes, Option, ◌==◌}
 use Rattle.pattern.specs.declared.state.Kind.{Kind}
 use Rattle.pattern.specs.declared.state.Kind.TheVariants.{Side, Part, Point, Face}
 use Rattle.std.specs.Str.{bytes_eq}
@@ -40,10 +40,11 @@ three_of say (a ∷ b ∷ c ∷ d ∷ ws) = stray
 -- the kind of line that a name tells
 abbrev pub kind_of : List ℕ → Option Kind
 kind_of name =
-    cond (bytes_eq name (codes "side")) (Some Side)
-    (cond (bytes_eq name (codes "part")) (Some Part)
-    (cond (bytes_eq name (codes "v")) (Some Point)
-    (cond (bytes_eq name (codes "f")) (Some Face) None)))
+    if bytes_eq name (codes "side") then Some Side
+    else if bytes_eq name (codes "part") then Some Part
+    else if bytes_eq name (codes "v") then Some Point
+    else if bytes_eq name (codes "f") then Some Face
+    else None
 
 -- a line of a kind, by the words after its name
 abbrev pub of_kind : Option Kind → List (List ℕ) → Said
@@ -64,7 +65,7 @@ is_comment [] = false
 is_comment (c ∷ cs) = c == 35
 
 unfoldable pub said : List ℕ → Said
-said l = cond (is_comment l) nothing (of_words (words l))
+said l = if is_comment l then nothing else of_words (words l)
 
 -- a line that says something, with its number
 pub record Spoken : Type 0 where
@@ -83,4 +84,4 @@ is_nothing stray = false
 -- the lines that say something, after n lines; the others are skipped, but they count
 abbrev pub spoken : ℕ → List (List ℕ) → List Spoken
 spoken n [] = []
-spoken n (l ∷ ls) = cond (is_nothing (said l)) (spoken (n + 1) ls) (record { at = n + 1; says = said l } ∷ spoken (n + 1) ls)
+spoken n (l ∷ ls) = if is_nothing (said l) then spoken (n + 1) ls else (record { at = n + 1; says = said l } ∷ spoken (n + 1) ls)

@@ -1,5 +1,5 @@
 -- What a pattern text means, read from where a reader stands: the side, then one part after the other, or the first fault.
-use Rattle.std.specs.Prelude.{◌≡◌, ℕ, ◌-◌, Bool, cond, ◌&&◌, List, [], ◌∷◌, ◌++◌, length, drop, is_some, Some, None, Ok, Err, Option, Result, ◌==◌, unsigned_abs}
+use Rattle.std.specs.Prelude.{◌≡◌, ℕ, ◌-◌, ◌≤◌, Bool, if◌then◌else◌, ◌&&◌, List, [], ◌∷◌, ◌++◌, length, drop, is_some, Some, None, Ok, Err, Option, Result, ◌==◌, unsigned_abs}
 use Rattle.geometry.specs.declared.mesh.Point.{Point}
 use Rattle.geometry.specs.declared.mesh.Face.{Face}
 use Rattle.refusals.specs.declared.Refusal.{Refusal}
@@ -33,11 +33,11 @@ may s k = is_some (next s k)
 -- a side line: 13 if it may not come, then 14 if the word is no number, then 2 if the number is no side
 abbrev pub side_by : State → ℕ → List Spoken → List ℕ → Result Stand Refusal
 side_by s n ls w =
-    cond (may s KindSide)
-    (cond (is_number w)
-    (cond (names_side (value w)) (Ok (record { state = Ready; side = Some (unsigned_abs (value w)); left = ls })) (Err (OddSide (Some n))))
-    (Err (BadNumber n)))
-    (Err (StrayLine n))
+    if may s KindSide then
+    (if is_number w then
+    (if names_side (value w) then Ok (record { state = Ready; side = Some (unsigned_abs (value w)); left = ls }) else Err (OddSide (Some n)))
+    else Err (BadNumber n))
+    else Err (StrayLine n)
 
 -- the side is in the first line; a text that ends before it is at fault in line 0
 abbrev pub side_from : State → List Spoken → Result Stand Refusal
@@ -84,9 +84,9 @@ add_face f o = record { points = o.points; faces = f ∷ o.faces; end = o.end }
 -- number, then 15 if there is no room
 abbrev pub entry_fault : State → Kind → ℕ → ℕ → List ℕ → List ℕ → List ℕ → Option Refusal
 entry_fault s k n room a b c =
-    cond (may s k)
-    (cond (is_number a && is_number b && is_number c) (cond (room == 0) (Some (FullTray n)) None) (Some (BadNumber n)))
-    (Some (StrayLine n))
+    if may s k then
+    (if is_number a && is_number b && is_number c then (if room == 0 then Some (FullTray n) else None) else Some (BadNumber n))
+    else Some (StrayLine n)
 
 abbrev pub unless : Option Refusal → Outcome → Outcome
 unless (Some r) o = ends (fault r)
@@ -113,7 +113,7 @@ part_from p f d [] = ends (no_part d)
 part_from p f d (l ∷ ls) = elim l.says [
   | nothing ↦ ends (fault (StrayLine l.at))
   | side_line w ↦ ends (fault (StrayLine l.at))
-  | part_line ↦ cond (may d.state KindPart) (body p f Points d.side ls) (ends (fault (StrayLine l.at)))
+  | part_line ↦ if may d.state KindPart then body p f Points d.side ls else ends (fault (StrayLine l.at))
   | part_and_more ↦ ends (fault (StrayLine l.at))
   | point_line a b c ↦ ends (fault (StrayLine l.at))
   | face_line a b c ↦ ends (fault (StrayLine l.at))
@@ -142,3 +142,7 @@ Stays stand (fault r) before after = after ≡ before
 -- a tray with these written at its front
 abbrev pub written : {A : Type 0} → List A → List A → List A
 written xs tray = xs ++ drop (length xs) tray
+
+-- the part that was read has room in the trays
+abbrev pub FitsTrays : List Point → List Face → Counts → Type 0
+FitsTrays points faces c = (c.points ≤ length points) × (c.faces ≤ length faces)

@@ -1,10 +1,11 @@
 -- What the code's values stand for.
-use Rattle.std.specs.Prelude.{◌≡◌, ℕ, ◌+◌, ◌<◌, Bool, true, false, cond, List, [], ◌∷◌, length, ℤ, Some, None, Ok, Err, Option, Result, ◌==◌}
+use Rattle.std.specs.Prelude.{◌≡◌, ℕ, ◌+◌, ◌<◌, Bool, true, false, List, [], ◌∷◌, length, ℤ, Some, None, Ok, Err, Option, Result, if◌then◌else◌}
 use Rattle.std.specs.Borrow.{Bor}
 use Rattle.std.specs.Option.{option_map}
 use Rattle.refusals.specs.declared.Refusal.{Refusal}
 use Rattle.refusals.specs.declared.box_side.BoxSide.{BoxSide}
 use Rattle.refusals.specs.BoxSides.{cells_of}
+use Rattle.pattern.specs.declared.word.Triple.{Triple}
 use Rattle.pattern.specs.declared.word.Word.{Word}
 use Rattle.pattern.specs.declared.word.Word.TheVariants.{Name, Number}
 use Rattle.pattern.specs.declared.line.Line.{Line}
@@ -21,20 +22,6 @@ use Rattle.pattern.specs.Pattern.{Stand, Outcome, over, fault, ends, entry_fault
 use Rattle.geometry.specs.declared.mesh.Point.{Point as CodePoint}
 use Rattle.geometry.specs.declared.mesh.Face.{Face as CodeFace}
 
--- the bytes before the first `stop`, and those from it on
-abbrev pub before : ℕ → List ℕ → List ℕ
-before stop [] = []
-before stop (c ∷ cs) = cond (c == stop) [] (c ∷ before stop cs)
-
-abbrev pub from : ℕ → List ℕ → List ℕ
-from stop [] = []
-from stop (c ∷ cs) = cond (c == stop) (c ∷ cs) (from stop cs)
-
--- the bytes without the spaces in front
-abbrev pub past_spaces : List ℕ → List ℕ
-past_spaces [] = []
-past_spaces (c ∷ cs) = cond (c == 32) (past_spaces cs) (c ∷ cs)
-
 -- the part of the text that a word is
 abbrev pub bytes_of : Word → List ℕ
 bytes_of (Name s) = s.now
@@ -48,7 +35,11 @@ WellTold (Number s) = is_number s.now ≡ true
 -- the number that a word tells
 abbrev pub number_in : Word → Option ℤ
 number_in (Name s) = None
-number_in (Number s) = cond (is_number s.now) (Some (value s.now)) None
+number_in (Number s) = if is_number s.now then Some (value s.now) else None
+
+-- each of the three words is well told
+abbrev pub AllTold : Triple → Type 0
+AllTold t = WellTold t.first × WellTold t.second × WellTold t.third
 
 -- the first word of a text, and what is left behind it
 abbrev pub First : List ℕ → List ℕ → Option Word → Type 0
@@ -60,9 +51,9 @@ abbrev pub One : List (List ℕ) → Option Word → Type 0
 One ws None = side_of ws ≡ stray
 One ws (Some w) = (ws ≡ bytes_of w ∷ []) × WellTold w
 
-abbrev pub Three : List (List ℕ) → Option (Word × Word × Word) → Type 0
+abbrev pub Three : List (List ℕ) → Option Triple → Type 0
 Three ws None = (say : List ℕ → List ℕ → List ℕ → Said) → three_of say ws ≡ stray
-Three ws (Some t) = (ws ≡ bytes_of t.0 ∷ bytes_of t.1 ∷ bytes_of t.2 ∷ []) × WellTold t.0 × WellTold t.1 × WellTold t.2
+Three ws (Some t) = (ws ≡ bytes_of t.first ∷ bytes_of t.second ∷ bytes_of t.third ∷ []) × AllTold t
 
 -- each word of the line is well told
 abbrev pub Told : Line → Type 0
@@ -70,8 +61,8 @@ Told Skip = Unit {0}
 Told (Side a) = WellTold a
 Told Part = Unit {0}
 Told PartAndMore = Unit {0}
-Told (Point a b c) = WellTold a × WellTold b × WellTold c
-Told (Face a b c) = WellTold a × WellTold b × WellTold c
+Told (Point t) = AllTold t
+Told (Face t) = AllTold t
 Told Stray = Unit {0}
 
 -- the line is not named part
@@ -80,8 +71,8 @@ GoesOn Skip = Unit {0}
 GoesOn (Side a) = Unit {0}
 GoesOn Part = ⊥
 GoesOn PartAndMore = ⊥
-GoesOn (Point a b c) = Unit {0}
-GoesOn (Face a b c) = Unit {0}
+GoesOn (Point t) = Unit {0}
+GoesOn (Face t) = Unit {0}
 GoesOn Stray = Unit {0}
 
 -- what a line says
@@ -90,8 +81,8 @@ said_by Skip = nothing
 said_by (Side a) = side_line (bytes_of a)
 said_by Part = part_line
 said_by PartAndMore = part_and_more
-said_by (Point a b c) = point_line (bytes_of a) (bytes_of b) (bytes_of c)
-said_by (Face a b c) = face_line (bytes_of a) (bytes_of b) (bytes_of c)
+said_by (Point t) = point_line (bytes_of t.first) (bytes_of t.second) (bytes_of t.third)
+said_by (Face t) = face_line (bytes_of t.first) (bytes_of t.second) (bytes_of t.third)
 said_by Stray = stray
 
 -- where a reader stands
@@ -145,13 +136,13 @@ EntryHeard before after None =
 EntryHeard before after (Some l) = LineHeard before after l × GoesOn l
 
 -- the numbers of a point or a face
-abbrev pub EntryRead : Reader → Reader → Kind → ℕ → Word → Word → Word → Result (ℤ × ℤ × ℤ) Refusal → Type 0
-EntryRead before after k room a b c (Ok t) =
-    (entry_fault before.state k before.line room (bytes_of a) (bytes_of b) (bytes_of c) ≡ None)
-    × (t.0 ≡ value (bytes_of a)) × (t.1 ≡ value (bytes_of b)) × (t.2 ≡ value (bytes_of c))
+abbrev pub EntryRead : Reader → Reader → Kind → ℕ → Triple → Result (ℤ × ℤ × ℤ) Refusal → Type 0
+EntryRead before after k room t (Ok n) =
+    (entry_fault before.state k before.line room (bytes_of t.first) (bytes_of t.second) (bytes_of t.third) ≡ None)
+    × (n.0 ≡ value (bytes_of t.first)) × (n.1 ≡ value (bytes_of t.second)) × (n.2 ≡ value (bytes_of t.third))
     × (next before.state k ≡ Some after.state) × (after.side ≡ before.side) × (after.line ≡ before.line) × (after.rest ≡ before.rest)
-EntryRead before after k room a b c (Err r) =
-    entry_fault before.state k before.line room (bytes_of a) (bytes_of b) (bytes_of c) ≡ Some r
+EntryRead before after k room t (Err r) =
+    entry_fault before.state k before.line room (bytes_of t.first) (bytes_of t.second) (bytes_of t.third) ≡ Some r
 
 -- the points and faces of a part
 abbrev pub BodyRead : Outcome → Stand → Result Counts Refusal → Type 0

@@ -1,5 +1,5 @@
 -- Which kind of line may come in which state, and where it leads.
-use Rattle.std.specs.Prelude.{◌≡◌, Bool, true, false, Some, None, Option}
+use Rattle.std.specs.Prelude.{Some, None, Option}
 use Rattle.pattern.specs.declared.state.State.{State}
 use Rattle.pattern.specs.declared.state.State.TheVariants.{Start, Ready, Points, Faces}
 use Rattle.pattern.specs.declared.state.Kind.{Kind}
@@ -23,8 +23,3 @@ next Faces Side = None
 next Faces Part = None
 next Faces Point = None
 next Faces Face = Some Faces
-
--- a step from s to t, or a refusal that leaves the state
-abbrev pub Steps : Option State → State → State → Bool → Type 0
-Steps None s t r = (r ≡ false) × (t ≡ s)
-Steps (Some u) s t r = (r ≡ true) × (t ≡ u)

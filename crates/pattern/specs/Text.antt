@@ -1,5 +1,5 @@
 -- Text as bytes: its lines, the words of a line, and the words that are numbers.
-use Rattle.std.specs.Prelude.{ℕ, ◌+◌, ◌-◌, ◌*◌, Bool, true, false, cond, ◌&&◌, List, [], ◌∷◌, length, ℤ, pos, neg_ℤ, ◌==◌, nat_le}
+use Rattle.std.specs.Prelude.{ℕ, ◌+◌, ◌-◌, ◌*◌, Bool, true, false, if◌then◌else◌, ◌&&◌, List, [], ◌∷◌, length, ℤ, pos, neg_ℤ, ◌==◌, nat_le}
 use Rattle.std.specs.Char.{is_ascii_digit}
 
 -- c in front of the first piece
@@ -10,12 +10,12 @@ grow c (w ∷ ws) = (c ∷ w) ∷ ws
 -- the lines: each ends in a line feed, byte 10, which the last may lack
 abbrev pub lines : List ℕ → List (List ℕ)
 lines [] = []
-lines (c ∷ cs) = cond (c == 10) ([] ∷ lines cs) (grow c (lines cs))
+lines (c ∷ cs) = if c == 10 then [] ∷ lines cs else grow c (lines cs)
 
 -- what stands before, between and after the spaces, byte 32
 abbrev pub pieces : List ℕ → List (List ℕ)
 pieces [] = [] ∷ []
-pieces (c ∷ cs) = cond (c == 32) ([] ∷ pieces cs) (grow c (pieces cs))
+pieces (c ∷ cs) = if c == 32 then [] ∷ pieces cs else grow c (pieces cs)
 
 abbrev pub without_empty : List (List ℕ) → List (List ℕ)
 without_empty [] = []
@@ -44,9 +44,9 @@ is_plain ds = nat_le 1 (length ds) && (nat_le (length ds) 5 && all_digits ds)
 -- an optional minus, byte 45, and one to five digits
 abbrev pub is_number : List ℕ → Bool
 is_number [] = false
-is_number (c ∷ cs) = cond (c == 45) (is_plain cs) (is_plain (c ∷ cs))
+is_number (c ∷ cs) = if c == 45 then is_plain cs else is_plain (c ∷ cs)
 
 -- the number that such a word writes
 abbrev pub value : List ℕ → ℤ
 value [] = pos 0
-value (c ∷ cs) = cond (c == 45) (neg_ℤ (pos (read_on 0 cs))) (pos (read_on 0 (c ∷ cs)))
+value (c ∷ cs) = if c == 45 then neg_ℤ (pos (read_on 0 cs)) else pos (read_on 0 (c ∷ cs))

@@ -8,5 +8,5 @@ pub mod word;
 
 pub use line::Line;
 pub use reader::{Counts, Reader};
-pub use state::{Kind, State};
-pub use word::Word;
+pub use state::{Kind, OutOfTurn, State};
+pub use word::{Triple, Word};

@@ -1,16 +1,15 @@
 //! What a line is, by its first word and by how many words it has.
 
 ghost use Rattle.std.specs.Prelude.{◌≡◌};
-ghost use Rattle.std.specs.Str.{bytes_eq};
 ghost use Rattle.pattern.specs.Lines.{is_comment, is_nothing, kind_of, of_kind, said};
 ghost use Rattle.pattern.specs.Text.{words};
 ghost use Rattle.pattern.specs.Read.{Told, said_by};
 
 use crate::state::Kind;
-use crate::word::{Word, Words};
+use crate::word::{Triple, Word, Words};
 
 /// A line of the text. Its words borrow it.
-#[derive(Clone, Copy)]
+#[derive(Clone, Copy, Debug, PartialEq, Eq)]
 pub enum Line<'a> {
     /// It has no words, or it begins with #: it is skipped.
     Skip,
@@ -21,33 +20,23 @@ pub enum Line<'a> {
     /// `part` and more words.
     PartAndMore,
     /// `v` and three words.
-    Point(Word<'a>, Word<'a>, Word<'a>),
+    Point(Triple<'a>),
     /// `f` and three words.
-    Face(Word<'a>, Word<'a>, Word<'a>),
+    Face(Triple<'a>),
     /// Another name, or too few or too many words.
     Stray,
-}
-
-fn is_same(a: &[u8], b: &[u8]) -> bool
-    ensures { result ≡ bytes_eq a.now b.now }
-{
-    a == b
 }
 
 /// The kind of line that a name tells.
 fn kind_of(name: &[u8]) -> Option<Kind>
     ensures { result ≡ kind_of name.now }
 {
-    if is_same(name, b"side") {
-        Some(Kind::Side)
-    } else if is_same(name, b"part") {
-        Some(Kind::Part)
-    } else if is_same(name, b"v") {
-        Some(Kind::Point)
-    } else if is_same(name, b"f") {
-        Some(Kind::Face)
-    } else {
-        None
+    match name {
+        b"side" => Some(Kind::Side),
+        b"part" => Some(Kind::Part),
+        b"v" => Some(Kind::Point),
+        b"f" => Some(Kind::Face),
+        _ => None,
     }
 }
 
@@ -55,7 +44,7 @@ fn kind_of(name: &[u8]) -> Option<Kind>
 fn is_comment(text: &[u8]) -> bool
     ensures { result ≡ is_comment text.now }
 {
-    !text.is_empty() && text[0] == b'#'
+    text.starts_with(b"#")
 }
 
 /// The line of a kind with these words after its name.
@@ -64,27 +53,19 @@ fn line_of<'a>(kind: Option<Kind>, mut args: Words<'a>) -> Line<'a>
     ensures told { Told result }
 {
     match kind {
-        Some(Kind::Side) => match args.one() {
-            Some(side) => Line::Side(side),
-            None => Line::Stray,
-        },
-        Some(Kind::Part) => match args.next_word() {
+        Some(Kind::Side) => args.one().map_or(Line::Stray, Line::Side),
+        Some(Kind::Part) => match args.next() {
             Some(_) => Line::PartAndMore,
             None => Line::Part,
         },
-        Some(Kind::Point) => match args.three() {
-            Some((x, y, z)) => Line::Point(x, y, z),
-            None => Line::Stray,
-        },
-        Some(Kind::Face) => match args.three() {
-            Some((a, b, c)) => Line::Face(a, b, c),
-            None => Line::Stray,
-        },
+        Some(Kind::Point) => args.three().map_or(Line::Stray, Line::Point),
+        Some(Kind::Face) => args.three().map_or(Line::Stray, Line::Face),
         None => Line::Stray,
     }
 }
 
 impl<'a> Line<'a> {
+    #[tactic(auto, unfolding(crate::specs::Lines::said))]
     /// What the line of these bytes, without its line feed, is.
     pub fn new(text: &'a [u8]) -> Line<'a>
         ensures said { said_by result ≡ said text.now }
@@ -94,7 +75,7 @@ impl<'a> Line<'a> {
             return Line::Skip;
         }
         let mut rest = Words::new(text);
-        match rest.next_word() {
+        match rest.next() {
             None => Line::Skip,
             Some(name) => line_of(kind_of(name.bytes()), rest),
         }

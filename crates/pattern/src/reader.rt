@@ -9,14 +9,14 @@ mod cursor;
 mod part;
 
 /// How many points and faces a part has.
-#[derive(Clone, Copy)]
+#[derive(Clone, Copy, Debug, PartialEq, Eq)]
 pub struct Counts {
     pub points: usize,
     pub faces: usize,
 }
 
 /// Reads a pattern text from the front. It moves only when a call succeeds.
-#[derive(Clone, Copy)]
+#[derive(Clone, Copy, Debug, PartialEq, Eq)]
 pub struct Reader<'a> {
     rest: &'a [u8],
     line: usize,

@@ -1,10 +1,10 @@
 //! What a line may be depends on the lines before it.
 
-ghost use Rattle.std.specs.Prelude.{◌≡◌};
-ghost use Rattle.pattern.specs.States.{Steps, next};
+ghost use Rattle.std.specs.Prelude.{◌≡◌, Some, None, MatchResult};
+ghost use Rattle.pattern.specs.States.{next};
 
 /// Where in the text a reader stands.
-#[derive(Clone, Copy)]
+#[derive(Clone, Copy, Debug, PartialEq, Eq)]
 pub enum State {
     /// Before the side line.
     Start,
@@ -17,7 +17,7 @@ pub enum State {
 }
 
 /// The kinds of line, by their names.
-#[derive(Clone, Copy)]
+#[derive(Clone, Copy, Debug, PartialEq, Eq)]
 pub enum Kind {
     Side,
     Part,
@@ -25,18 +25,22 @@ pub enum Kind {
     Face,
 }
 
+/// A line of this kind may not come now.
+#[derive(Clone, Copy, Debug, PartialEq, Eq)]
+pub struct OutOfTurn;
+
 impl State {
-    /// Goes on by a line of this kind; false, and the state stays, where such a line may not come.
-    pub fn step(&mut self, kind: Kind) -> bool
-        ensures { Steps (next self.old kind) self.old self.new result }
+    /// Goes on by a line of this kind; the state stays where such a line may not come.
+    pub fn step(&mut self, kind: Kind) -> Result<(), OutOfTurn>
+        ensures { MatchResult result (λ _. next self.old kind ≡ Some self.new) (λ _. (next self.old kind ≡ None) × (self.new ≡ self.old)) }
     {
-        match (*self, kind) {
-            (State::Start, Kind::Side) => *self = State::Ready,
-            (State::Ready, Kind::Part) => *self = State::Points,
-            (State::Points, Kind::Point) => *self = State::Points,
-            (State::Points | State::Faces, Kind::Face) => *self = State::Faces,
-            _ => return false,
-        }
-        true
+        *self = match (*self, kind) {
+            (State::Start, Kind::Side) => State::Ready,
+            (State::Ready, Kind::Part) => State::Points,
+            (State::Points, Kind::Point) => State::Points,
+            (State::Points | State::Faces, Kind::Face) => State::Faces,
+            _ => return Err(OutOfTurn),
+        };
+        Ok(())
     }
 }

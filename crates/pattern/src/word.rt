@@ -1,12 +1,13 @@
 //! The words of a line. A word is that part of the text.
 
-ghost use Rattle.std.specs.Prelude.{◌≡◌, ◌<◌, ◌≤◌, true, false, cond, length, take, drop, pos, Some, None, MatchOption};
-ghost use Rattle.std.specs.Option.{option_map};
+ghost use Rattle.std.specs.Prelude.{◌≡◌, ◌<◌, ◌≤◌, ◌==◌, true, false, length, MatchOption};
+ghost use Rattle.std.specs.Iterator.{item_count};
+ghost use Rattle.std.specs.List.{position_or_len, prefix_len};
 ghost use Rattle.pattern.specs.Text.{is_number, is_plain, read_on, value, words};
-ghost use Rattle.pattern.specs.Read.{First, One, Three, WellTold, before, bytes_of, from, number_in, past_spaces};
+ghost use Rattle.pattern.specs.Read.{First, One, Three, WellTold, bytes_of, number_in};
 
 /// A word, which borrows the text that it stands in.
-#[derive(Clone, Copy)]
+#[derive(Clone, Copy, Debug, PartialEq, Eq)]
 pub enum Word<'a> {
     /// It has not the form of a number.
     Name(&'a [u8]),
@@ -14,29 +15,28 @@ pub enum Word<'a> {
     Number(&'a [u8]),
 }
 
+/// Three words, as a point and a face have them.
+#[derive(Clone, Copy, Debug, PartialEq, Eq)]
+pub struct Triple<'a> {
+    pub first: Word<'a>,
+    pub second: Word<'a>,
+    pub third: Word<'a>,
+}
+
 /// How many bytes stand before the first `stop`.
 pub(crate) fn count_before(text: &[u8], stop: u8) -> usize
     ensures within { result ≤ length text.now }
-    ensures front { take result text.now ≡ before stop text.now }
-    ensures back { drop result text.now ≡ from stop text.now }
+    ensures place { result ≡ position_or_len (λ b. b == stop) text.now }
 {
-    let mut n = 0;
-    while n < text.len() && text[n] != stop {
-        n += 1;
-    }
-    n
+    text.iter().take_while(|&&b| b != stop).count()
 }
 
 /// How many spaces stand in front.
 fn count_spaces(text: &[u8]) -> usize
     ensures within { result ≤ length text.now }
-    ensures past { drop result text.now ≡ past_spaces text.now }
+    ensures place { result ≡ prefix_len (λ b. b == 32) text.now }
 {
-    let mut n = 0;
-    while n < text.len() && text[n] == b' ' {
-        n += 1;
-    }
-    n
+    text.iter().take_while(|&&b| b == b' ').count()
 }
 
 /// The number that one to five digits write.
@@ -114,10 +114,39 @@ impl<'a> Words<'a> {
         Words { rest }
     }
 
-    /// The next word, if there is one.
-    pub(crate) fn next_word(&mut self) -> Option<Word<'a>>
-        ensures { First self.old.rest.now self.new.rest.now result }
+    /// The one word that is left, or none where there is no word or more than one.
+    pub(crate) fn one(mut self) -> Option<Word<'a>>
+        ensures { One (words self.entry.rest.now) result }
     {
+        let word = self.next()?;
+        match self.next() {
+            None => Some(word),
+            Some(_) => None,
+        }
+    }
+
+    /// The three words that are left, or none where there are fewer or more.
+    pub(crate) fn three(mut self) -> Option<Triple<'a>>
+        ensures { Three (words self.entry.rest.now) result }
+    {
+        let first = self.next()?;
+        let second = self.next()?;
+        let third = self.next()?;
+        match self.next() {
+            None => Some(Triple { first, second, third }),
+            Some(_) => None,
+        }
+    }
+}
+
+impl<'a> Iterator for Words<'a> {
+    type Item = Word<'a>;
+
+    ghost next_gives = { λ s r t. First s.rest.now t.rest.now r };
+
+    ghost remaining = { item_count (λ s. words s.rest.now) };
+
+    fn next(&mut self) -> Option<Word<'a>> {
         let text = &self.rest[count_spaces(self.rest)..];
         if text.is_empty() {
             self.rest = text;
@@ -126,29 +155,5 @@ impl<'a> Words<'a> {
         let (first, rest) = text.split_at(count_before(text, b' '));
         self.rest = rest;
         Some(Word::new(first))
-    }
-
-    /// The one word that is left, or none where there is no word or more than one.
-    pub(crate) fn one(mut self) -> Option<Word<'a>>
-        ensures { One (words self.entry.rest.now) result }
-    {
-        let a = self.next_word()?;
-        match self.next_word() {
-            None => Some(a),
-            Some(_) => None,
-        }
-    }
-
-    /// The three words that are left, or none where there are fewer or more.
-    pub(crate) fn three(mut self) -> Option<(Word<'a>, Word<'a>, Word<'a>)>
-        ensures { Three (words self.entry.rest.now) result }
-    {
-        let a = self.next_word()?;
-        let b = self.next_word()?;
-        let c = self.next_word()?;
-        match self.next_word() {
-            None => Some((a, b, c)),
-            Some(_) => None,
-        }
     }
 }

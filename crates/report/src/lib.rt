@@ -1,15 +1,17 @@
 //! What boxrun prints for a pattern text.
 #![tactic(auto)]
 
-ghost use Rattle.std.specs.Prelude.{◌≡◌, ◌<◌, ◌≤◌, length, IfOk, string_bytes, codes};
+ghost use Rattle.std.specs.Prelude.{◌≡◌, ◌<◌, ◌≤◌, length, IfOk, Err, string_bytes, codes};
+ghost use Rattle.report.specs.declared.Stop.TheVariants.{TooBig};
 
 use cells::box_cells;
 use geometry::{Face, Facet, Point};
-use pattern::{Counts, Reader};
-use refusals::Refusal;
-use rows::next_run;
+use pattern::Reader;
+use refusals::{BoxSide, Refusal};
+use rows::runs;
+use shapes::{FaceList, Shape};
 use std::alloc::{AllocError, Global};
-use verdict::{Verdict, judge};
+use verdict::{NotKept, judge};
 
 mod cells;
 pub mod verdict;
@@ -17,112 +19,107 @@ pub mod verdict;
 /// The most bytes that a text may have.
 pub const MOST_BYTES: usize = 16_384;
 
-/// The largest side that is taken.
-const MOST_SIDE: usize = 32;
-
 /// How many points, and how many faces, a part may have.
 const TRAY: usize = 256;
+
+/// Why a report ends before its text does.
+#[derive(Debug, Drop)]
+enum Stop {
+    /// The text is too long, or the side of its box is over 32.
+    TooBig,
+    /// The text is refused.
+    Refused(Refusal),
+    /// There was no memory for the report.
+    OutOfMemory(AllocError),
+}
+
+impl From<Refusal> for Stop {
+    fn from(why: Refusal) -> Stop {
+        Stop::Refused(why)
+    }
+}
+
+impl From<AllocError> for Stop {
+    fn from(why: AllocError) -> Stop {
+        Stop::OutOfMemory(why)
+    }
+}
 
 /// The report on a pattern text.
 pub fn report(heap: Global, text: &[u8]) -> Result<String, AllocError>
     ensures { IfOk result (λ s. 16384 < length text.now → string_bytes s ≡ codes "too big\n") }
 {
     let mut out = String::new(heap);
-    if text.len() > MOST_BYTES {
-        out.push_str("too big\n")?;
-    } else {
-        report_text(heap, text, &mut out)?;
+    match report_text(heap, text, &mut out) {
+        Ok(()) => {}
+        Err(Stop::TooBig) => out.push_str("too big\n")?,
+        Err(Stop::Refused(why)) => {
+            writeln!(out, "text refused {} line {}", why.number(), why.place())?
+        }
+        Err(Stop::OutOfMemory(why)) => return Err(why),
     }
     Ok(out)
 }
 
-/// The report on a text that is short enough.
-fn report_text(heap: Global, text: &[u8], out: &mut String) -> Result<(), AllocError> {
+/// The side of the box, a line for each part, and the solid cells; also those of the parts before a refusal.
+fn report_text(heap: Global, text: &[u8], out: &mut String) -> Result<(), Stop>
+    ensures { 16384 < length text.now → (result ≡ Err TooBig) × (out.new ≡ out.old) }
+{
+    if text.len() > MOST_BYTES {
+        return Err(Stop::TooBig);
+    }
     let mut reader = Reader::new(text);
-    let side = match reader.side() {
-        Ok(side) => side.cells(),
-        Err(why) => return report_refusal(heap, why, out),
-    };
-    if side > MOST_SIDE {
-        return out.push_str("too big\n");
+    let side = reader.side()?;
+    if side == BoxSide::SixtyFour {
+        return Err(Stop::TooBig);
     }
-    out.push_str(format!(in heap; "side {side}\n")?.as_str())?;
-    let mut facets = Vec::new(heap);
-    let refused = report_parts(heap, &mut reader, &mut facets, out)?;
-    report_runs(heap, facets.as_slice(), side as u8, out)?;
-    match refused {
-        Some(why) => report_refusal(heap, why, out),
-        None => Ok(()),
-    }
+    writeln!(out, "side {}", side.cells())?;
+    let mut kept = Vec::new(heap);
+    let read = report_parts(&mut reader, &mut kept, out);
+    report_runs(kept.as_slice(), side, out)?;
+    read
 }
 
-/// Why the text was refused, and in which line.
-fn report_refusal(heap: Global, why: Refusal, out: &mut String) -> Result<(), AllocError> {
-    let number = why.number();
-    let line = why.place();
-    out.push_str(format!(in heap; "text refused {number} line {line}\n")?.as_str())
-}
-
-/// A line for each part, and the triangles of the parts that close; then the refusal that ends the text, if one does.
-fn report_parts(
-    heap: Global,
-    reader: &mut Reader,
-    facets: &mut Vec<Facet>,
-    out: &mut String,
-) -> Result<Option<Refusal>, AllocError> {
+/// A line for each part; the triangles of the parts that close are kept.
+fn report_parts(reader: &mut Reader, kept: &mut Vec<Facet>, out: &mut String) -> Result<(), Stop> {
     let mut points = [Point { x: 0, y: 0, z: 0 }; TRAY];
     let mut faces = [Face { a: 0, b: 0, c: 0 }; TRAY];
     // each part has a line of its own, so there are fewer parts than bytes
-    for part in 1..MOST_BYTES {
-        match reader.next_part(&mut points, &mut faces) {
-            Err(why) => return Ok(Some(why)),
-            Ok(None) => return Ok(None),
-            Ok(Some(counts)) => report_part(heap, part, counts, &points, &faces, facets, out)?,
-        }
+    for number in 1..MOST_BYTES {
+        let Some(counts) = reader.next_part(&mut points, &mut faces)? else {
+            break;
+        };
+        let part = FaceList {
+            points: &points[..counts.points],
+            faces: &faces[..counts.faces],
+        };
+        report_part(number, part, kept, out)?;
     }
-    Ok(None)
+    Ok(())
 }
 
-/// The line of a part whose points and faces stand at the front of the trays.
+/// The line of a part.
 fn report_part(
-    heap: Global,
-    part: usize,
-    counts: Counts,
-    points: &[Point],
-    faces: &[Face],
-    facets: &mut Vec<Facet>,
+    number: usize,
+    part: FaceList,
+    kept: &mut Vec<Facet>,
     out: &mut String,
 ) -> Result<(), AllocError> {
-    let n = counts.points.min(points.len());
-    let m = counts.faces.min(faces.len());
-    let verdict = judge(heap, &points[0..n], &faces[0..m], facets)?;
-    let found = describe(heap, verdict)?;
-    out.push_str(format!(in heap; "part {part}: {n} points, {m} faces, {found}\n")?.as_str())
-}
-
-/// A verdict in words.
-fn describe(heap: Global, verdict: Verdict) -> Result<String, AllocError> {
-    match verdict {
-        Verdict::Closed => String::from_str(heap, "closed"),
-        Verdict::Open => String::from_str(heap, "open"),
-        Verdict::Hole(face) => format!(in heap; "missing point in face {face}"),
-        Verdict::Wild(face) => format!(in heap; "wild point in face {face}"),
+    let heap = *out.allocator();
+    write!(out, "part {number}: {} points, {} faces, ", part.points.len(), part.faces.len())?;
+    match judge(heap, &part, kept) {
+        Ok(()) => writeln!(out, "closed"),
+        Err(NotKept::Flawed(flaw)) => writeln!(out, "{flaw}"),
+        Err(NotKept::OutOfMemory(why)) => Err(why),
     }
 }
 
 /// A line for each of the longest runs of solid cells by cell number, and one with the count of solid cells.
-fn report_runs(heap: Global, facets: &[Facet], side: u8, out: &mut String) -> Result<(), AllocError>
-    requires { side ≤ 32 }
-{
-    let cells = box_cells(heap, facets, side)?;
-    let mut solid = 0usize;
-    let mut from = 0;
-    while let Some(run) = next_run(cells.as_slice(), from) {
-        let start = run.start;
-        let length = run.end - run.start;
-        out.push_str(format!(in heap; "{start} {length}\n")?.as_str())?;
-        solid += length;
-        from = run.end;
+fn report_runs(facets: &[Facet], side: BoxSide, out: &mut String) -> Result<(), AllocError> {
+    let cells = box_cells(*out.allocator(), facets, side)?;
+    for run in runs(cells.as_slice()) {
+        writeln!(out, "{} {}", run.start, run.end - run.start)?;
     }
-    out.push_str(format!(in heap; "solid {solid}\n")?.as_str())
+    let solid = cells.iter().filter(|solid| **solid).count();
+    writeln!(out, "solid {solid}")
 }

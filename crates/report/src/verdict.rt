@@ -1,19 +1,20 @@
-//! Whether the faces of a part make a closed mesh.
+//! Whether the entries of a shape make a closed mesh.
 
-ghost use Rattle.std.specs.Prelude.{◌≡◌, List, ◌++◌, map, length, IfOk, vec_items, Decides};
-ghost use Rattle.geometry.specs.Closed.{Closed as SidesClose};
+ghost use Rattle.std.specs.Prelude.{◌≡◌, List, map, length, IfOk, OnErr, vec_items};
 ghost use Rattle.geometry.specs.Read.{triangle_of};
-ghost use Rattle.report.specs.Faces.{Collected, Means, point_named, triangle_named};
+ghost use Rattle.report.specs.Parts.{Collected, Closes, IsOutOfMemory, Means};
+ghost use Rattle.report.specs.declared.verdict.NotKept.TheVariants.{Flawed, OutOfMemory};
 
-use closing::{Closure, check_sides};
-use geometry::{Face, Facet, Point, Side, Triangle};
-use std::alloc::{AllocError, Global};
+use closing::check_sides;
+use geometry::{Facet, Point, Side, Triangle};
+use shapes::Shape;
+use std::alloc::{AllocError, AllocFailed, Global};
+use std::error::Error;
+use std::fmt;
 
-/// What is found of a part.
-#[derive(Clone, Copy)]
-pub enum Verdict {
-    /// Its sides close.
-    Closed,
+/// What is wrong with a part.
+#[derive(Clone, Copy, Debug, PartialEq, Eq)]
+pub enum Flaw {
     /// Two different points are joined by an odd number of its sides.
     Open,
     /// The face of this number, counted from 1, names a missing point.
@@ -22,61 +23,74 @@ pub enum Verdict {
     Wild(usize),
 }
 
-/// The point of a number, counted from 1.
-fn point_named(points: &[Point], number: i32) -> Option<Point>
-    ensures { result ≡ point_named points.now number }
-{
-    if number < 1 {
-        return None;
+impl fmt::Display for Flaw {
+    fn fmt<W: fmt::Write>(&self, f: &mut fmt::Formatter<W>) -> fmt::Result {
+        match self {
+            Flaw::Open => write!(f, "open"),
+            Flaw::Hole(face) => write!(f, "missing point in face {face}"),
+            Flaw::Wild(face) => write!(f, "wild point in face {face}"),
+        }
     }
-    points.get((number - 1) as usize).copied()
 }
 
-/// The triangle that a face names, or none where it names a missing point.
-pub fn triangle_named(points: &[Point], face: Face) -> Option<Triangle>
-    ensures { result ≡ triangle_named points.now face }
-{
-    let v0 = point_named(points, face.a)?;
-    let v1 = point_named(points, face.b)?;
-    let v2 = point_named(points, face.c)?;
-    Some(Triangle { v0, v1, v2 })
+impl Error for Flaw {}
+
+/// Why no triangles were kept.
+#[derive(Debug, Drop)]
+pub enum NotKept {
+    /// The part has a flaw.
+    Flawed(Flaw),
+    /// There was no memory to tell.
+    OutOfMemory(AllocError),
 }
 
-/// The triangles of the faces, all in range; or the first face that names none, or one out of range.
-fn collect(
-    heap: Global,
-    points: &[Point],
-    faces: &[Face],
-) -> Result<Result<Vec<Facet>, Verdict>, AllocError>
-    ensures { IfOk result (λ q. Collected vec_items points.now faces.now q) }
+impl From<Flaw> for NotKept {
+    ghost from_gives = { λ flaw e. e ≡ Flawed flaw };
+
+    fn from(flaw: Flaw) -> NotKept {
+        NotKept::Flawed(flaw)
+    }
+}
+
+impl From<AllocError> for NotKept {
+    ghost from_gives = { λ why e. e ≡ OutOfMemory why };
+
+    fn from(why: AllocError) -> NotKept {
+        NotKept::OutOfMemory(why)
+    }
+}
+
+impl<T: Drop> From<AllocFailed<T>> for NotKept {
+    ghost from_gives = { λ _ e. IsOutOfMemory e };
+
+    fn from(why: AllocFailed<T>) -> NotKept {
+        NotKept::OutOfMemory(AllocError::from(why))
+    }
+}
+
+/// The triangles of the entries, all in range; or the first entry that is none, or is out of range.
+fn collect<S: Shape>(heap: Global, shape: &S) -> Result<Vec<Facet>, NotKept>
+    ensures { Collected vec_items (S.entries shape.now) result }
 {
     let mut facets = Vec::new(heap);
-    for (i, face) in faces.iter().enumerate() {
-        let Some(triangle) = triangle_named(points, *face) else {
-            return Ok(Err(Verdict::Hole(i + 1)));
-        };
-        let Some(facet) = Facet::new(triangle) else {
-            return Ok(Err(Verdict::Wild(i + 1)));
-        };
+    for i in 0..shape.count() {
+        let triangle = shape.entry(i).ok_or(Flaw::Hole(i + 1))?;
+        let facet = Facet::new(triangle).ok_or(Flaw::Wild(i + 1))?;
         facets.push(facet)?;
     }
-    Ok(Ok(facets))
+    Ok(facets)
 }
 
 /// The triangles of a list of facets.
 fn triangles_of(heap: Global, facets: &[Facet]) -> Result<Vec<Triangle>, AllocError>
     ensures { IfOk result (λ v. v.items ≡ map triangle_of facets.now) }
 {
-    let mut triangles = Vec::new(heap);
-    for facet in facets {
-        triangles.push(facet.triangle())?;
-    }
-    Ok(triangles)
+    facets.iter().map(|facet| facet.triangle()).collect(heap)
 }
 
-/// Whether the sides of the triangles close.
-fn closes(heap: Global, facets: &[Facet]) -> Result<bool, AllocError>
-    ensures { IfOk result (λ b. Decides b (SidesClose (map triangle_of facets.now))) }
+/// Checks that the sides of the triangles close.
+fn check_closed(heap: Global, facets: &[Facet]) -> Result<(), NotKept>
+    ensures { Closes (map triangle_of facets.now) result }
 {
     let triangles = triangles_of(heap, facets)?;
     let origin = Point { x: 0, y: 0, z: 0 };
@@ -86,27 +100,17 @@ fn closes(heap: Global, facets: &[Facet]) -> Result<bool, AllocError>
     };
     let mut shelf = vec![in heap; blank; 3 * triangles.len()]?;
     match check_sides(triangles.as_slice(), shelf.as_mut_slice()) {
-        Closure::Closed => Ok(true),
-        _ => Ok(false),
+        Ok(()) => Ok(()),
+        Err(_) => Err(NotKept::Flawed(Flaw::Open)),
     }
 }
 
-/// What is found of a part with these points and faces. Its triangles are added to `kept` where they close.
-pub fn judge(
-    heap: Global,
-    points: &[Point],
-    faces: &[Face],
-    kept: &mut Vec<Facet>,
-) -> Result<Verdict, AllocError>
-    ensures { IfOk result (λ v. Means points.now faces.now kept.old.items kept.new.items v) }
+/// Adds the triangles of a part to `kept` where its sides close; else says what is wrong with it. Where it fails, `kept` stays.
+pub fn judge<S: Shape>(heap: Global, shape: &S, kept: &mut Vec<Facet>) -> Result<(), NotKept>
+    ensures { Means (S.entries shape.now) kept.old.items kept.new.items result }
 {
-    let facets = match collect(heap, points, faces)? {
-        Ok(facets) => facets,
-        Err(verdict) => return Ok(verdict),
-    };
-    if !closes(heap, facets.as_slice())? {
-        return Ok(Verdict::Open);
-    }
+    let facets = collect(heap, shape)?;
+    check_closed(heap, facets.as_slice())?;
     kept.extend_from_slice(facets.as_slice())?;
-    Ok(Verdict::Closed)
+    Ok(())
 }

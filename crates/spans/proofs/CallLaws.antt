@@ -1,5 +1,5 @@
 -- What the calls of a span block answer, and leave.
-use Rattle.std.proofs.Common.{◌≡◌, ℕ, zero, suc, ◌<◌, ◌≤◌, Bool, true, false, cond, ◌&&◌, ltb, List, [], sym, refl, ap, ◌∙◌, subst, arith}
+use Rattle.std.proofs.Common.{◌≡◌, ℕ, zero, suc, ◌<◌, ◌≤◌, Bool, true, false, cond, ◌&&◌, ltb, List, [], is_ok, Ok, Err, OnErr, OnOk, Result, sym, refl, ap, ◌∙◌, subst, arith}
 use Rattle.std.proofs.lemmas.Bool.{and_right, lt-ltb}
 use Rattle.block.specs.Drawing.{blank, turned}
 use Rattle.block.proofs.Turns.{turned_high}
@@ -34,17 +34,23 @@ odd_shown m k before ps l e = ap odd e ∙ ap (λ b. b && odd (upto ps k)) (sym 
 
 -- ---- a run changed
 
--- the places ps become those of the changed drawing at yes, and stay as they are at no
-module _ (m lo hi : ℕ) (ps qs : List ℕ) (le : hi ≤ m) where
+-- the places ps become those of the changed drawing at `Ok`, and stay as they are at `Err`
+module _ {T E : Type 0} (m lo hi : ℕ) (ps qs : List ℕ) (le : hi ≤ m) (r : Result T E)
+    (done : OnOk r (ChangePlaces m (turned (shown m ps) lo hi) qs)) (same : OnErr r (qs ≡ ps)) where
   none_past : (k : ℕ) → m ≤ k → turned (shown m ps) lo hi k ≡ false
   none_past k l = turned_high (shown m ps) lo hi k (omega arith) ∙ shown_within m ps k l
 
-  pub change_listed : ChangePlaces m (shown m ps) ps → (r : Bool) → (r ≡ true → ChangePlaces m (turned (shown m ps) lo hi) qs) → (r ≡ false → qs ≡ ps)
-      → ChangePlaces m (shown m qs) qs
-  change_listed h true done same = shown_lists m (turned (shown m ps) lo hi) qs (done refl) none_past
-  change_listed h false done same = subst (λ xs. ChangePlaces m (shown m xs) xs) (sym (same refl)) h
+  pub change_listed : ChangePlaces m (shown m ps) ps → ChangePlaces m (shown m qs) qs
+  change_listed h = by r done same
+    where
+      by : (q : Result T E) → OnOk q (ChangePlaces m (turned (shown m ps) lo hi) qs) → OnErr q (qs ≡ ps) → ChangePlaces m (shown m qs) qs
+      by (Ok v) d s = shown_lists m (turned (shown m ps) lo hi) qs d none_past
+      by (Err e) d s = subst (λ xs. ChangePlaces m (shown m xs) xs) (sym s) h
 
-  pub change_shown : (r : Bool) → (r ≡ true → ChangePlaces m (turned (shown m ps) lo hi) qs) → (r ≡ false → qs ≡ ps)
-      → shown m qs ≡ cond r (turned (shown m ps) lo hi) (shown m ps)
-  change_shown true done same = shown_is m (turned (shown m ps) lo hi) qs (done refl) none_past
-  change_shown false done same = ap (shown m) (same refl)
+  pub change_shown : shown m qs ≡ cond (is_ok r) (turned (shown m ps) lo hi) (shown m ps)
+  change_shown = by r done same
+    where
+      by : (q : Result T E) → OnOk q (ChangePlaces m (turned (shown m ps) lo hi) qs) → OnErr q (qs ≡ ps)
+          → shown m qs ≡ cond (is_ok q) (turned (shown m ps) lo hi) (shown m ps)
+      by (Ok v) d s = shown_is m (turned (shown m ps) lo hi) qs d none_past
+      by (Err e) d s = ap (shown m) s

@@ -1,12 +1,12 @@
 -- Rising places: which numbers are among them, how many they are, and the drawing that they tell.
-use Rattle.std.proofs.Common.{◌≡◌, ℕ, zero, suc, ◌+◌, ◌%◌, ◌<◌, ◌≤◌, Bool, true, false, cond, ◌&&◌, eqb, ltb, leb, List, [], ◌∷◌, length, get_or, take, drop, Ordering, Less, Equal, Greater, sym, refl, ap, ◌∙◌, subst, ⊎_elim, arith}
+use Rattle.std.proofs.Common.{◌≡◌, ℕ, zero, suc, ◌+◌, ◌%◌, ◌<◌, ◌≤◌, Bool, true, false, cond, ◌&&◌, ◌||◌, eqb, ltb, leb, List, [], ◌∷◌, length, get_or, take, drop, Ordering, Less, Equal, Greater, sym, refl, ap, ◌∙◌, subst, ⊎_elim, arith}
 use mathlib.Core.Path.{fun_ext}
 use Rattle.std.specs.List.{AllByRecursion}
 use Rattle.std.specs.Cmp.{ranks, unsigned_tied}
 use Rattle.std.specs.Ordering.{eq_by_cmp, MatchOrdering, nat_cmp}
 use Rattle.std.specs.List.Sorted.{IsStrictlySortedBy, IsStrictlyIncreasing}
 use Rattle.std.proofs.lemmas.Map.Keys.{below_from_sorted, sorted_from_strictly_increasing}
-use Rattle.std.proofs.lemmas.Bool.{ltb-true, lt-ltb, le-ltb, le-leb, lt-leb, eq-eqb, ne_eqb, cases_eq, cases_lt, cond-true, cond-false, and_left, and_parts}
+use Rattle.std.proofs.lemmas.Bool.{ltb-true, lt-ltb, le-ltb, le-leb, lt-leb, eq-eqb, ne_eqb, cases_eq, cases_lt, and_left, and_parts, or_left, or_right}
 use Rattle.algebra.specs.Parity.{◌⊻◌}
 use Rattle.algebra.proofs.Parity.{xor_false, xor_same}
 use Rattle.block.specs.Drawing.{turned}
@@ -22,10 +22,6 @@ use Rattle.spans.proofs.Counts.{but, but_else, count_none, count_same, count_tur
 -- where the first test passes, both pass just where the second does
 and_yes : {a : Bool} (b : Bool) → a ≡ true → (a && b) ≡ b
 and_yes b e = ap (λ x. x && b) e
-
-either_way : (a b : Bool) → b ≡ true → cond a true b ≡ true
-either_way true b e = refl
-either_way false b e = e
 
 ranked : (x y : ℕ) (r : Ordering) → nat_cmp x y ≡ r → MatchOrdering r (x < y) (x ≡ y) (y < x)
 ranked x y r e = subst (λ k. MatchOrdering k (x < y) (x ≡ y) (y < x)) e (ranks x y)
@@ -50,15 +46,15 @@ unlisted : (p : ℕ) (ps : List ℕ) → AllByRecursion (λ y. nat_cmp p y ≡ L
 unlisted p [] h = refl
 unlisted p (x ∷ xs) h =
     let l : p < x = ranked p x Less h.0 in
-    cond-false (eqb p x) true (has eqb xs p) (ne_eqb p x (λ e. omega arith)) ∙ unlisted p xs h.1
+    ap (λ b. b || has eqb xs p) (ne_eqb p x (λ e. omega arith)) ∙ unlisted p xs h.1
 
 -- with one more place below them
 has_more : (p : ℕ) (ps : List ℕ) → AllByRecursion (λ y. nat_cmp p y ≡ Less) ps → (i : ℕ) → has eqb (p ∷ ps) i ≡ but (has eqb ps) p i
 has_more p ps h i = ⊎_elim
     (λ (e : i ≡ p).
-    cond-true (eqb i p) true (has eqb ps i) (eq-eqb i p e)
+    ap (λ b. b || has eqb ps i) (eq-eqb i p e)
     ∙ sym (xor_same (ap (has eqb ps) e ∙ unlisted p ps h) (eq-eqb i p e)))
-    (λ (ne : i ≡ p → ⊥). cond-false (eqb i p) true (has eqb ps i) (ne_eqb i p ne) ∙ sym (but_else (has eqb ps) p i ne))
+    (λ (ne : i ≡ p → ⊥). ap (λ b. b || has eqb ps i) (ne_eqb i p ne) ∙ sym (but_else (has eqb ps) p i ne))
     (cases_eq i p)
 
 -- ---- how many they are
@@ -69,8 +65,8 @@ length_count m [] s h = sym (count_none m)
 length_count m (p ∷ ps) s h =
     let more = has_more p ps s.0 in
     let same = count_same m (has eqb (p ∷ ps)) (but (has eqb ps) p) (λ i l. more i) in
-    let in_box : p < m = h p (cond-true (eqb p p) true (has eqb ps p) (eq-eqb p p refl)) in
-    let rest = length_count m ps s.1 (λ i e. h i (either_way (eqb i p) (has eqb ps i) e)) in
+    let in_box : p < m = h p (or_left (eqb p p) (has eqb ps p) (eq-eqb p p refl)) in
+    let rest = length_count m ps s.1 (λ i e. h i (or_right (eqb i p) (has eqb ps i) e)) in
     let new = unlisted p ps s.0 in
     let a = ap one new in
     let b = ap (λ v. one (v ⊻ true)) new in

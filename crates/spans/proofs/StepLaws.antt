@@ -7,7 +7,9 @@ use Rattle.std.proofs.lemmas.List.Edits.{length-insert, length-remove}
 use Rattle.std.proofs.lemmas.Map.Keys.{IsStrictlyIncreasing-from_sorted, sorted_from_strictly_increasing}
 use Rattle.std.proofs.lemmas.Bool.{lt-ltb, ltb-false, or_parts, or_right}
 use Rattle.algebra.specs.Parity.{◌⊻◌}
+use Rattle.algebra.proofs.Parity.{xor_assoc, xor_comm}
 use Rattle.toggles.specs.Toggled.{Answered, PutIn, TakenOut, Tells, Toggled, has}
+use Rattle.spans.specs.Changes.{TogglesBoth}
 use Rattle.spans.proofs.Counts.{but, one}
 use Rattle.spans.proofs.PlaceLaws.{has_by}
 
@@ -67,23 +69,31 @@ second_goes : (b : Bool) (len next n : ℕ) → len ≤ n → (b ≡ false → l
 second_goes true len next n l h e = omega arith
 second_goes false len next n l h e = omega (arith, h refl)
 
-module _ (ps qs rs : List ℕ) (n m p q : ℕ) (r s : Bool) (a : Answered nat_cmp ps qs n p r) (b : Answered nat_cmp qs rs m q s)
-    (up : IsStrictlyIncreasing ps) (same : m ≡ n) (within : length ps ≤ n) (fits : has eqb ps p ≡ false → length ps + 2 ≤ n) where
-  first_done : r ≡ true
+module _ (ps qs : List ℕ) (n p : ℕ) (r : Bool) (a : Answered nat_cmp ps qs n p r) (up : IsStrictlyIncreasing ps)
+    (fits : has eqb ps p ≡ false → length ps + 2 ≤ n) where
+  pub first_done : r ≡ true
   first_done = toggle_answer ps qs n p r a up ∙ first_goes (has eqb ps p) (length ps) n fits
 
-  next_up : IsStrictlyIncreasing qs
-  next_up = toggle_rises ps qs n p r a up first_done
+  module _ (rs : List ℕ) (m q : ℕ) (s : Bool) (b : Answered nat_cmp qs rs m q s) (same : m ≡ n) (within : length ps ≤ n) where
+    next_up : IsStrictlyIncreasing qs
+    next_up = toggle_rises ps qs n p r a up first_done
 
-  second_done : s ≡ true
-  second_done =
-      let l = second_goes (has eqb ps p) (length ps) (length qs) n within fits (toggle_length ps qs n p r a up first_done) in
-      toggle_answer qs rs m q s b next_up ∙ or_right (has eqb qs q) (ltb (length qs) m) (lt-ltb (length qs) m (omega arith))
+    pub second_done : s ≡ true
+    second_done =
+        let l = second_goes (has eqb ps p) (length ps) (length qs) n within fits (toggle_length ps qs n p r a up first_done) in
+        toggle_answer qs rs m q s b next_up ∙ or_right (has eqb qs q) (ltb (length qs) m) (lt-ltb (length qs) m (omega arith))
 
-  pub turn_rises : IsStrictlyIncreasing rs
-  turn_rises = toggle_rises qs rs m q s b next_up second_done
+    pub both_toggled : TogglesBoth ps rs p q
+    both_toggled = record {
+      rising = toggle_rises qs rs m q s b next_up second_done;
+      exact = λ i.
+          toggle_has qs rs m q s b next_up second_done i
+          ∙ ap (λ v. v ⊻ eqb i q) (toggle_has ps qs n p r a up first_done i);
+    }
 
-  pub turn_has : (i : ℕ) → has eqb rs i ≡ but (but (has eqb ps) p) q i
-  turn_has i =
-      toggle_has qs rs m q s b next_up second_done i
-      ∙ ap (λ v. v ⊻ eqb i q) (toggle_has ps qs n p r a up first_done i)
+either_first : (v x y : Bool) → (v ⊻ x ⊻ y) ≡ (v ⊻ y ⊻ x)
+either_first v x y = xor_assoc v x y ∙ ap (λ w. v ⊻ w) (xor_comm x y) ∙ sym (xor_assoc v y x)
+
+-- two toggles may change places
+pub swapped : (ks ns : List ℕ) (a b : ℕ) → TogglesBoth ks ns b a → TogglesBoth ks ns a b
+swapped ks ns a b t = record { rising = t.rising; exact = λ i. t.exact i ∙ either_first (has eqb ks i) (eqb i b) (eqb i a) }

@@ -1,5 +1,5 @@
 -- The change places of a drawing: the numbers of the cells that differ from the cell before them, where the cell before 0 counts as empty.
-use Rattle.std.specs.Prelude.{◌≡◌, ℕ, zero, suc, ◌+◌, ◌*◌, Bool, cond, ◌&&◌, List, length, nat_eq, nat_le, nat_lt}
+use Rattle.std.specs.Prelude.{◌≡◌, ℕ, zero, suc, ◌+◌, ◌*◌, Bool, if◌then◌else◌, ◌&&◌, List, length, nat_eq, nat_le, nat_lt}
 use Rattle.std.specs.List.Sorted.{IsStrictlyIncreasing}
 use Rattle.algebra.specs.Parity.{◌⊻◌}
 use Rattle.toggles.specs.Toggled.{has}
@@ -12,7 +12,7 @@ differs d (suc i) = d (suc i) ⊻ d i
 -- how many numbers below n pass the test f
 unfoldable pub count : ℕ → (ℕ → Bool) → ℕ
 count zero f = 0
-count (suc n) f = cond (f n) 1 0 + count n f
+count (suc n) f = (if f n then 1 else 0) + count n f
 
 -- how many of the first n cells differ from the cell before them
 abbrev pub changes : ℕ → (ℕ → Bool) → ℕ
@@ -28,3 +28,9 @@ pub record ChangePlaces (m : ℕ) (d : ℕ → Bool) (ps : List ℕ) : Type 0 wh
   pub rising : IsStrictlyIncreasing ps
   pub exact : (i : ℕ) → has nat_eq ps i ≡ (nat_lt i m && differs d i)
   pub many : length ps ≡ changes m d
+
+-- the places ns are the places ks with a and then b toggled: each is less than the next, and a number is among them where it was, but for
+-- a and b
+pub record TogglesBoth (ks ns : List ℕ) (a b : ℕ) : Type 0 where
+  pub rising : IsStrictlyIncreasing ns
+  pub exact : (i : ℕ) → has nat_eq ns i ≡ (has nat_eq ks i ⊻ nat_eq i a ⊻ nat_eq i b)

@@ -26,7 +26,7 @@ listed_fits m n d ps h l = le-leb (changes m d) n (omega (arith, h.many))
 
 -- the present drawing fits
 pub kept_fits : (b : Spans) → Sound b → fits_in b (drawing_of b) ≡ true
-kept_fits b h = listed_fits (volume_of b) (length (lent_to b)) (drawing_of b) (places_of b) h.listed (within_room b.list)
+kept_fits b h = listed_fits (volume_of b) (length (lent_to b)) (drawing_of b) (places_of b) h (within_room b.list)
 
 -- no cell outside the box is solid
 pub shown_within : (m : ℕ) (ps : List ℕ) (k : ℕ) → m ≤ k → shown m ps k ≡ false
@@ -35,7 +35,7 @@ shown_within m ps k h = and_left (nat_lt k m) (odd (upto ps k)) (le-ltb k m h)
 
 -- a block is tied to itself, and over several calls
 pub tied_same : (b : Spans) → Tied b b
-tied_same b = record { same_loan = refl; same_length = refl }
+tied_same b = record { room = refl; loan = refl }
 
 pub tied_on : (a b c : Spans) → Tied a b → Tied b c → Tied a c
-tied_on a b c s t = record { same_loan = t.same_loan ∙ s.same_loan; same_length = t.same_length ∙ s.same_length }
+tied_on a b c s t = record { room = t.room ∙ s.room; loan = t.loan ∙ s.loan }

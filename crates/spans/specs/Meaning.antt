@@ -1,14 +1,15 @@
 -- What a span block means.
-use Rattle.std.specs.Prelude.{◌≡◌, ℕ, ◌*◌, Bool, true, List, length}
-use Rattle.refusals.specs.Sides.{is_side}
-use Rattle.toggles.specs.Present.{SameLoan, lent, present}
+use Rattle.std.specs.Prelude.{◌≡◌, ℕ, ◌*◌, Bool, List, length}
+use Rattle.refusals.specs.BoxSides.{cells_of}
+use Rattle.block.specs.Keeps.{Keeps}
+use Rattle.toggles.specs.Present.{SameShelf, lent, present}
 use Rattle.spans.specs.declared.Spans.{Spans}
 use Rattle.spans.specs.Changes.{ChangePlaces, suffice}
 use Rattle.spans.specs.Shown.{shown}
 
 -- how many cells it has along each axis
 abbrev pub edge_of : Spans → ℕ
-edge_of b = b.edge
+edge_of b = cells_of b.side
 
 -- how many cells it has
 abbrev pub volume_of : Spans → ℕ
@@ -30,12 +31,14 @@ drawing_of b = shown (volume_of b) (places_of b)
 abbrev pub fits_in : Spans → (ℕ → Bool) → Bool
 fits_in b = suffice (edge_of b) (length (lent_to b))
 
--- along each axis it has one of the six sides, and the places that it keeps are the change places of its drawing
-pub record Sound (b : Spans) : Type 0 where
-  pub sided : is_side (edge_of b) ≡ true
-  pub listed : ChangePlaces (volume_of b) (drawing_of b) (places_of b)
+-- the places that it keeps are the change places of its drawing
+abbrev pub Sound : Spans → Type 0
+Sound b = ChangePlaces (volume_of b) (drawing_of b) (places_of b)
 
 -- the second is lent the same places as the first, as many as before
-pub record Tied (b c : Spans) : Type 0 where
-  pub same_loan : SameLoan b.list c.list
-  pub same_length : length (lent_to c) ≡ length (lent_to b)
+abbrev pub Tied : Spans → Spans → Type 0
+Tied b c = SameShelf b.list c.list
+
+-- what every call keeps: that it is sound, the lent places, the side and what fits
+abbrev pub Kept : Spans → Spans → Type 0
+Kept = Keeps Sound Tied edge_of fits_in

@@ -1,10 +1,10 @@
 -- The drawing that a list of places tells.
-use Rattle.std.specs.Prelude.{ℕ, ◌+◌, ◌%◌, Bool, cond, ◌&&◌, List, [], ◌∷◌, ◌==◌, nat_le, nat_lt}
+use Rattle.std.specs.Prelude.{ℕ, ◌+◌, ◌%◌, Bool, if◌then◌else◌, ◌&&◌, List, [], ◌∷◌, ◌==◌, nat_le, nat_lt}
 
 -- how many of the places are at most k
 unfoldable pub upto : List ℕ → ℕ → ℕ
 upto [] k = 0
-upto (p ∷ ps) k = cond (nat_le p k) 1 0 + upto ps k
+upto (p ∷ ps) k = (if nat_le p k then 1 else 0) + upto ps k
 
 abbrev pub odd : ℕ → Bool
 odd n = n % 2 == 1

@@ -2,16 +2,17 @@
 //! places that it is lent.
 #![tactic(auto)]
 
-ghost use Rattle.std.specs.Prelude.{◌≡◌, ◌<◌, ◌≤◌, [], length, if◌then◌else◌};
+ghost use Rattle.std.specs.Prelude.{◌≡◌, ◌<◌, ◌≤◌, [], is_ok, length, if◌then◌else◌};
 ghost use Rattle.refusals.specs.BoxSides.{cells_of};
 ghost use Rattle.block.specs.Drawing.{blank, turned};
 ghost use Rattle.spans.specs.Changes.{ChangePlaces, suffice};
 ghost use Rattle.spans.specs.Laws.{blank_fits, kept_fits, shown_within, tied_on, tied_same};
-ghost use Rattle.spans.specs.Meaning.{Sound, Tied, drawing_of, edge_of, fits_in, lent_to, places_of, volume_of};
+ghost use Rattle.spans.specs.Meaning.{Kept, Sound, Tied, drawing_of, edge_of, fits_in, lent_to, places_of, volume_of};
 
-use block::{Block, number_in, run_in};
+use block::{Block, Cell, Run};
+use geometry::Span;
 use refusals::{BoxSide, Refusal};
-use toggles::Toggles;
+use toggles::{Full, Toggles};
 
 mod places;
 
@@ -21,13 +22,13 @@ use places::{cell_count, count_upto, turn_run};
 /// cell differs from cell i - 1, where the cell before 0 counts as empty. A drawing fits if it has at most as many as there are places lent.
 #[derive(Drop)]
 pub struct Spans<'a> {
-    // N, as a number: a layer over a type that holds a `&mut` beside a `BoxSide`, which has a ghost field, gets no generated proof.
-    edge: usize,
+    side: BoxSide,
     list: Toggles<'a, u32>,
 }
 
 impl<'a> Spans<'a> {
     /// A blank block. It keeps no place, and nothing is written.
+    #[tactic(auto, using(crate::proofs::CallLaws::none_blank))]
     pub fn new(side: BoxSide, places: &'a mut [u32]) -> Spans<'a>
         ensures sound { Sound result }
         ensures edge { edge_of result ≡ cells_of side }
@@ -37,9 +38,8 @@ impl<'a> Spans<'a> {
         ensures blank { drawing_of result ≡ blank }
         ensures fits { fits_in result ≡ suffice (cells_of side) (length places.old) }
     {
-        let edge = side.cells();
         let list = Toggles::new(places);
-        Spans { edge, list }
+        Spans { side, list }
     }
 
     /// The change places of the drawing, in rising order. They stand at the front of the lent slice; what stands behind them means nothing.
@@ -60,19 +60,16 @@ impl<'a> Spans<'a> {
         count_upto(self.places(), k as u32) % 2 == 1
     }
 
-    /// Changes the cells from `first` up to, and without, `past`. No, and nothing is changed, exactly where the changed drawing does not fit.
-    fn change(&mut self, first: usize, past: usize) -> bool
+    /// Changes the cells of a run, by their numbers. An error, and nothing is changed, exactly where the changed drawing does not fit.
+    #[tactic(auto, using(crate::proofs::CallLaws::change_listed, crate::proofs::CallLaws::change_shown))]
+    fn change(&mut self, run: Span) -> Result<(), Full>
         requires sound { Sound self.old }
-        requires within { (first < past) × (past ≤ volume_of self.old) }
-        ensures kept { Sound self.new }
-        ensures same_loans { Tied self.old self.new }
-        ensures same_side { edge_of self.new ≡ edge_of self.old }
-        ensures same_fits { fits_in self.new ≡ fits_in self.old }
-        ensures fits { result ≡ fits_in self.old (turned (drawing_of self.old) first past) }
-        ensures drawn { drawing_of self.new ≡ (if result then turned (drawing_of self.old) first past else drawing_of self.old) }
+        requires within { (run.start < run.end) × (run.end ≤ volume_of self.old) }
+        ensures kept { Kept self.old self.new }
+        ensures fits { is_ok result ≡ fits_in self.old (turned (drawing_of self.old) run.start run.end) }
+        ensures drawn { drawing_of self.new ≡ (if is_ok result then turned (drawing_of self.old) run.start run.end else drawing_of self.old) }
     {
-        let volume = cell_count(self.edge);
-        turn_run(&mut self.list, volume, first as u32, past as u32)
+        turn_run(&mut self.list, cell_count(self.side), run)
     }
 }
 
@@ -99,27 +96,16 @@ impl<'a> Block for Spans<'a> {
     ghost within = { λ b _. shown_within (volume_of b) (places_of b) };
 
     fn side(&self) -> BoxSide {
-        // N came from a `BoxSide`.
-        match BoxSide::new(self.edge as i32) {
-            Ok(side) => side,
-            Err(_) => unreachable(),
-        }
+        self.side
     }
 
-    fn look(&self, x: usize, y: usize, z: usize) -> Result<bool, Refusal> {
-        match number_in(self.edge, x, y, z) {
-            Some(k) => Ok(self.is_solid(k)),
-            None => Err(Refusal::OffBox),
-        }
+    fn look(&self, cell: Cell) -> Result<bool, Refusal> {
+        let k = cell.number_in(self.side.cells()).ok_or(Refusal::OffBox)?;
+        Ok(self.is_solid(k))
     }
 
-    fn flip(&mut self, y: usize, z: usize, l: usize, r: usize) -> Result<(), Refusal> {
-        let Some((first, past)) = run_in(self.edge, y, z, l, r) else {
-            return Err(Refusal::OffBox);
-        };
-        if !self.change(first, past) {
-            return Err(Refusal::NoSand);
-        }
-        Ok(())
+    fn flip(&mut self, run: Run) -> Result<(), Refusal> {
+        let numbers = run.numbers_in(self.side.cells()).ok_or(Refusal::OffBox)?;
+        self.change(numbers).map_err(|_| Refusal::NoSand)
     }
 }

@@ -1,5 +1,5 @@
 //! A toggle list of numbers, and the search.
-use toggles::{Toggles, find_place};
+use toggles::{Full, Toggles, find_place};
 
 fn first_three(list: &Toggles<u32>) -> [Option<u32>; 3] {
     [list.get(0), list.get(1), list.get(2)]
@@ -10,10 +10,13 @@ fn present_keys_rise(rt: HostRuntime) {
     let mut places = [0; 4];
     let mut list = Toggles::new(&mut places);
     assert!(rt; list.is_empty());
-    assert!(rt; list.toggle(7) && list.toggle(3) && list.toggle(5));
+    for key in [7, 3, 5] {
+        assert_eq!(rt; list.toggle(key), Ok(()));
+    }
     assert_eq!(rt; first_three(&list), [Some(3), Some(5), Some(7)]);
     assert!(rt; list.has(&5) && !list.has(&4));
-    assert!(rt; list.toggle(5) && !list.has(&5));
+    assert_eq!(rt; list.toggle(5), Ok(()));
+    assert!(rt; !list.has(&5));
     assert_eq!(rt; first_three(&list), [Some(3), Some(7), None]);
 }
 
@@ -21,10 +24,12 @@ fn present_keys_rise(rt: HostRuntime) {
 fn a_full_list_refuses_a_new_key_and_gives_back_an_old_one(rt: HostRuntime) {
     let mut places = [0; 2];
     let mut list = Toggles::new(&mut places);
-    assert!(rt; list.toggle(9) && list.toggle(1));
-    assert!(rt; !list.toggle(4) && list.len() == 2);
+    assert_eq!(rt; list.toggle(9), Ok(()));
+    assert_eq!(rt; list.toggle(1), Ok(()));
+    assert_eq!(rt; list.toggle(4), Err(Full));
+    assert_eq!(rt; list.len(), 2);
     assert_eq!(rt; first_three(&list), [Some(1), Some(9), None]);
-    assert!(rt; list.toggle(1));
+    assert_eq!(rt; list.toggle(1), Ok(()));
     assert_eq!(rt; first_three(&list), [Some(9), None, None]);
 }
 

@@ -1,7 +1,6 @@
 //! The check of the sides of a tetrahedron, and of lists that are not quite one.
-use closing::{Closure, check_sides};
+use closing::{Leak, check_sides};
 use geometry::{Point, Side, Triangle};
-use std::test::Fail;
 
 fn point(x: i32, y: i32, z: i32) -> Point {
     Point { x, y, z }
@@ -43,39 +42,24 @@ fn tetrahedron() -> [Triangle; 4] {
     ]
 }
 
-fn closes(triangles: &[Triangle]) -> bool {
-    matches!(check_sides(triangles, &mut shelf()), Closure::Closed)
-}
-
 #[test]
 fn a_tetrahedron_closes(rt: HostRuntime) {
-    assert!(rt; closes(&tetrahedron()));
+    assert_eq!(rt; check_sides(&tetrahedron(), &mut shelf()), Ok(()));
 }
 
 #[test]
 fn eleven_places_are_too_few(rt: HostRuntime) {
     let mut shelf = shelf();
-    assert!(rt;
-        matches!(
-            check_sides(&tetrahedron(), &mut shelf[0..11]),
-            Closure::ShortShelf
-        )
-    );
+    assert_eq!(rt; check_sides(&tetrahedron(), &mut shelf[0..11]), Err(Leak::ShortShelf));
 }
 
 #[test]
-fn without_a_face_a_side_is_odd(rt: HostRuntime) -> Result<(), Fail> {
-    match check_sides(&tetrahedron()[0..3], &mut shelf()) {
-        Closure::Odd(side) => {
-            let expected = Side {
-                low: point(0, 0, 41),
-                high: point(0, 41, 0),
-            };
-            assert!(rt; side == expected);
-            Ok(())
-        }
-        _ => Err(Fail::new("no side is odd")),
-    }
+fn without_a_face_a_side_is_odd(rt: HostRuntime) {
+    let odd = Side {
+        low: point(0, 0, 41),
+        high: point(0, 41, 0),
+    };
+    assert_eq!(rt; check_sides(&tetrahedron()[0..3], &mut shelf()), Err(Leak::Odd(odd)));
 }
 
 // The corners of the second triangle are the same points, in another order.
@@ -91,7 +75,7 @@ fn a_triangle_twice_closes(rt: HostRuntime) {
         v1: point(4, 5, 6),
         v2: point(1, 2, 3),
     };
-    assert!(rt; closes(&[once, again]));
+    assert_eq!(rt; check_sides(&[once, again], &mut shelf()), Ok(()));
 }
 
 #[test]
@@ -101,5 +85,5 @@ fn two_equal_corners_close(rt: HostRuntime) {
         v1: point(1, 1, 1),
         v2: point(2, 0, 0),
     };
-    assert!(rt; closes(&[flat]));
+    assert_eq!(rt; check_sides(&[flat], &mut shelf()), Ok(()));
 }

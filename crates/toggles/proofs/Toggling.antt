@@ -9,25 +9,24 @@ use Rattle.std.proofs.lemmas.Cmp.{eq_by_cmp_equiv}
 use Rattle.std.proofs.lemmas.Bool.{lt-ltb, le-ltb}
 use Rattle.toggles.specs.Search.{Place, Stands}
 use Rattle.toggles.proofs.Rising.{Missing, Hit, before, after, missing, hit, sorted_put, sorted_cut, sorted_none}
-use Rattle.toggles.specs.Toggled.{has, PutIn, TakenOut, Toggled, Answered, Keeps}
+use Rattle.toggles.specs.Toggled.{has, PutIn, TakenOut, Tells, Toggled, Answered, Keeps}
 
 -- ---- tests
 
-past : (a b l : Bool) → (b ≡ true → a ≡ false) → cond a true (cond b true l) ≡ cond b true (cond a true l)
-past a true l h = ap (λ z. cond z true true) (h refl)
-past true false l h = refl
-past false false l h = refl
+or_swap : (a b l : Bool) → (a || (b || l)) ≡ (b || (a || l))
+or_swap true true l = refl
+or_swap true false l = refl
+or_swap false b l = refl
 
-under : (a b l : Bool) → (b ≡ true → a ≡ false) → cond a true (cond b false l) ≡ cond b false (cond a true l)
-under a true l h = ap (λ z. cond z true false) (h refl)
-under true false l h = refl
-under false false l h = refl
+under : (a b l : Bool) → (b ≡ true → a ≡ false) → (a || cond b false l) ≡ cond b false (a || l)
+under a true l h = ap (λ z. z || false) (h refl)
+under a false l h = refl
 
-gone : (b l : Bool) → (b ≡ true → l ≡ false) → l ≡ cond b false (cond b true l)
+gone : (b l : Bool) → (b ≡ true → l ≡ false) → l ≡ cond b false (b || l)
 gone true l h = h refl
 gone false l h = refl
 
-swap_in : (b l : Bool) → (b ≡ true → l ≡ false) → cond b true l ≡ cond b (not l) l
+swap_in : (b l : Bool) → (b ≡ true → l ≡ false) → (b || l) ≡ cond b (not l) l
 swap_in true l h = sym (ap not (h refl))
 swap_in false l h = refl
 
@@ -46,17 +45,17 @@ when_no b P Q e q = subst (λ z. MatchBool z P Q) (sym e) q
 module _ {K : Type 0} (e : K → K → Bool) where
   has_missing : (k : K) (ks : List K) → Missing e k ks → has e ks k ≡ false
   has_missing k [] m = refl
-  has_missing k (x ∷ xs) m = ap (λ z. cond z true (has e xs k)) m.0 ∙ has_missing k xs m.1
+  has_missing k (x ∷ xs) m = ap (λ z. z || has e xs k) m.0 ∙ has_missing k xs m.1
 
   has_hit : (k : K) (ks : List K) (i : ℕ) → Hit e k ks i → has e ks k ≡ true
   has_hit k [] i t = absurd t
-  has_hit k (x ∷ xs) zero t = ap (λ z. cond z true (has e xs k)) t
-  has_hit k (x ∷ xs) (suc i) t = ap (λ z. cond z true (has e xs k)) t.0 ∙ has_hit k xs i t.1
+  has_hit k (x ∷ xs) zero t = ap (λ z. z || has e xs k) t
+  has_hit k (x ∷ xs) (suc i) t = ap (λ z. z || has e xs k) t.0 ∙ has_hit k xs i t.1
 
   module _ (flip : (x y : K) → e x y ≡ e y x) (alike : (x y z : K) → e x y ≡ true → e x z ≡ e y z) (k q : K) where
     has_alike : (ks : List K) → e q k ≡ true → has e ks q ≡ has e ks k
     has_alike [] t = refl
-    has_alike (x ∷ xs) t = ap (λ z. cond z true (has e xs q)) (alike q k x t) ∙ ap (λ z. cond (e k x) true z) (has_alike xs t)
+    has_alike (x ∷ xs) t = ap (λ z. z || has e xs q) (alike q k x t) ∙ ap (λ z. e k x || z) (has_alike xs t)
 
     apart : (x : K) → e k x ≡ false → e q k ≡ true → e q x ≡ false
     apart x f t = alike q k x t ∙ f
@@ -64,19 +63,19 @@ module _ {K : Type 0} (e : K → K → Bool) where
     turned : (x : K) → e k x ≡ true → e q x ≡ e q k
     turned x t = flip q x ∙ sym (alike k x q t) ∙ flip k q
 
-    has_put : (i : ℕ) (ks : List K) → Missing e k ks → has e (insert ks i k) q ≡ cond (e q k) true (has e ks q)
+    has_put : (i : ℕ) (ks : List K) → Missing e k ks → has e (insert ks i k) q ≡ (e q k || has e ks q)
     has_put zero ks m = refl
     has_put (suc i) [] m = refl
     has_put (suc i) (x ∷ xs) m =
-        ap (λ z. cond (e q x) true z) (has_put i xs m.1) ∙ past (e q x) (e q k) (has e xs q) (apart x m.0)
+        ap (λ z. e q x || z) (has_put i xs m.1) ∙ or_swap (e q x) (e q k) (has e xs q)
 
     has_cut : (ks : List K) (i : ℕ) → Hit e k ks i → Missing e k (drop (suc i) ks) → has e (remove ks i) q ≡ cond (e q k) false (has e ks q)
     has_cut [] i t m = absurd t
     has_cut (x ∷ xs) zero t m =
         gone (e q k) (has e xs q) (λ s. has_alike xs s ∙ has_missing k xs m)
-        ∙ ap (λ z. cond (e q k) false (cond z true (has e xs q))) (sym (turned x t))
+        ∙ ap (λ z. cond (e q k) false (z || has e xs q)) (sym (turned x t))
     has_cut (x ∷ xs) (suc i) t m =
-        ap (λ z. cond (e q x) true z) (has_cut xs i t.1 m) ∙ under (e q x) (e q k) (has e xs q) (apart x t.0)
+        ap (λ z. e q x || z) (has_cut xs i t.1 m) ∙ under (e q x) (e q k) (has e xs q) (apart x t.0)
 
 -- ---- where a search for k ended
 
@@ -132,6 +131,10 @@ module _ {K : Type 0} {R : K → K → Ordering} (o : IsTotalOrder R) (k : K) (k
         one = when_yes (has (eq_by_cmp R) ks k) (TakenOut ks (remove ks i)) (PutIn ks (remove ks i) k) (old_key i p) (i, p.0, refl);
       }
 
+module _ {K : Type 0} {R : K → K → Ordering} (k : K) (ks : List K) where
+  pub place_tells : (p : Result ℕ ℕ) (r : Bool) → Place R ks k p → r ≡ is_ok p → Tells R ks k r
+  place_tells p r at e = record { tells = λ o s. e ∙ place_has o k ks s p at }
+
 module _ {K : Type 0} {R : K → K → Ordering} (k : K) (ks : List K) (i n : ℕ) where
   pub put_answers : (ns : List K) → Place R ks k (Err i) → length ks < n → ns ≡ insert ks i k → Answered R ks ns n k true
   put_answers ns p l e = record {
@@ -159,8 +162,8 @@ keeps_none {R = R} o ks e = record {
   odd = λ q. ap (λ xs. has (eq_by_cmp R) xs q) e;
 }
 
-pub keeps_more : {K : Type 0} {R : K → K → Ordering} (ks ns : List K) (n : ℕ) (k : K) (r : Bool) → Answered R ks ns n k r
-    → (o : IsTotalOrder R) (ts : List K) → Keeps o ks ts → r ≡ true → Keeps o ns (k ∷ ts)
-keeps_more {R = R} ks ns n k r a o ts h so =
-    let t = a.toggled o h.rising so in
+pub keeps_more : {K : Type 0} {R : K → K → Ordering} (ks ns : List K) (n : ℕ) (k : K) → Answered R ks ns n k true
+    → (o : IsTotalOrder R) (ts : List K) → Keeps o ks ts → Keeps o ns (k ∷ ts)
+keeps_more {R = R} ks ns n k a o ts h =
+    let t = a.toggled o h.rising refl in
     record { rising = t.rising; odd = λ q. t.swaps q ∙ ap (λ z. cond (eq_by_cmp R q k) (not z) z) (h.odd q) }

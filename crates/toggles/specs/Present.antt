@@ -18,6 +18,7 @@ room t = length t.keys.now
 abbrev pub lent : {K : Type 0} → Toggles K → List K
 lent t = t.keys.now
 
--- the second list keeps its keys in the slice that the first was lent
-abbrev pub SameLoan : {K : Type 0} → Toggles K → Toggles K → Type 0
-SameLoan s t = t.keys.ghost_name ≡ s.keys.ghost_name
+-- the second list keeps its keys in the slice that the first was lent, which has as many places as before
+pub record SameShelf {K : Type 0} (s t : Toggles K) : Type 0 where
+  pub room : room t ≡ room s
+  pub loan : t.keys.ghost_name ≡ s.keys.ghost_name

@@ -1,16 +1,15 @@
 -- A list of keys as a set, and what it is to toggle a key there. An order o of the keys may tie keys that are not the same: tied keys
 -- count as one.
-use Rattle.std.specs.Prelude.{◌≡◌, ℕ, ◌<◌, ◌≤◌, Bool, true, false, cond, not, ◌||◌, List, [], ◌∷◌, length, MatchBool, nat_lt}
+use Rattle.std.specs.Prelude.{◌≡◌, ℕ, ◌<◌, ◌≤◌, Bool, true, false, if◌then◌else◌, not, ◌||◌, List, [], ◌∷◌, length, MatchBool, nat_lt}
 use Rattle.std.specs.declared.cmp.Ordering.{Ordering}
-use Rattle.std.specs.List.{insert, remove}
+use Rattle.std.specs.List.{insert, list_any, remove}
 use Rattle.std.specs.Cmp.{IsTotalOrder}
 use Rattle.std.specs.Ordering.{eq_by_cmp}
 use Rattle.std.specs.List.Sorted.{IsStrictlySortedBy}
 
 -- whether ks has a key that e ties to q
 abbrev pub has : {K : Type 0} → (K → K → Bool) → List K → K → Bool
-has e [] q = false
-has e (x ∷ xs) q = cond (e q x) true (has e xs q)
+has e ks q = list_any (e q) ks
 
 -- the answer r tells whether k is among the keys ks, where they rise
 pub record Tells {K : Type 0} (R : K → K → Ordering) (ks : List K) (k : K) (r : Bool) : Type 0 where
@@ -28,7 +27,7 @@ TakenOut ks ns = (i : ℕ) × (i < length ks) × (ns ≡ remove ks i)
 -- is one key that was taken out or put in
 pub record Toggled {K : Type 0} {R : K → K → Ordering} (o : IsTotalOrder R) (ks ns : List K) (k : K) : Type 0 where
   pub rising : IsStrictlySortedBy R ns
-  pub swaps : (q : K) → has (eq_by_cmp R) ns q ≡ cond (eq_by_cmp R q k) (not (has (eq_by_cmp R) ks q)) (has (eq_by_cmp R) ks q)
+  pub swaps : (q : K) → has (eq_by_cmp R) ns q ≡ (if eq_by_cmp R q k then not (has (eq_by_cmp R) ks q) else has (eq_by_cmp R) ks q)
   pub one : MatchBool (has (eq_by_cmp R) ks k) (TakenOut ks ns) (PutIn ks ns k)
 
 -- the answer r to toggling k among the keys ks, where they rise, in n places: no exactly where k is new and the places are all taken;
@@ -40,7 +39,7 @@ pub record Answered {K : Type 0} (R : K → K → Ordering) (ks ns : List K) (n 
 -- whether an odd number of the keys ts are tied to q
 abbrev pub odd_times : {K : Type 0} → (K → K → Bool) → List K → K → Bool
 odd_times e [] q = false
-odd_times e (t ∷ ts) q = cond (e q t) (not (odd_times e ts q)) (odd_times e ts q)
+odd_times e (t ∷ ts) q = if e q t then not (odd_times e ts q) else odd_times e ts q
 
 -- ks rises, and has exactly the keys that were toggled an odd number of times, where ts are the keys toggled, the last one first
 pub record Keeps {K : Type 0} {R : K → K → Ordering} (o : IsTotalOrder R) (ks ts : List K) : Type 0 where

@@ -3,8 +3,10 @@
 
 #![tactic(auto)]
 
+pub mod full;
 pub mod list;
 pub mod search;
 
+pub use full::Full;
 pub use list::Toggles;
 pub use search::find_place;

@@ -1,4 +1,4 @@
-use Rattle.std.proofs.Common.{◌≡◌, ℕ, ◌*◌, ◌<◌, Bool, cond, length, is_ok, Some, None, Err, sym, ap, ◌∙◌, subst, arith}
+use Rattle.std.proofs.Common.{◌≡◌, ℕ, ◌*◌, ◌<◌, Bool, false, cond, length, is_ok, Some, None, Err, sym, ap, ◌∙◌, subst, arith}
 use Rattle.std.proofs.lemmas.Bool.{cond-false}
 use Rattle.refusals.specs.declared.Refusal.TheVariants.{NoSand}
 use Rattle.block.specs.Drawing.{refusal_of}
@@ -81,8 +81,8 @@ returns-in-Err-clause-answer g c =
     let same = c.as_slice.ensures.value in
     let row = c.row_flips-flips.ensures in
     let cut : ws ≡ numbered n solid i = cc in
-    let off = sym (done_if c.make_flips.result _ told) ∙ ap is_ok c.in-Err.is in
-    let full : Some c.in-Err.why ≡ Some NoSand = sym (ap refusal_of c.in-Err.is) ∙ told ∙ cond-false _ None (Some NoSand) off in
+    let off : all_fit (g.B.Block.edge c.loop-i.block) (g.B.Block.fits c.loop-i.block) (g.B.Block.drawing c.loop-i.block) ws ≡ false = sym (done_if c.make_flips.result _ told) ∙ ap is_ok c.in-Err.is in
+    let full : Some c.in-Err.why ≡ Some NoSand = sym (ap refusal_of c.in-Err.is) ∙ told ∙ cond-false (all_fit (g.B.Block.edge c.loop-i.block) (g.B.Block.fits c.loop-i.block) (g.B.Block.drawing c.loop-i.block) ws) None (Some NoSand) off in
     let why : c.in-Err.why ≡ NoSand = cc in
     ap Err why ∙ none_made n solid F d (row_not n solid F d i ws cut inv.kept.same_side inv.kept.same_fits (g.B.Block.drawing c.loop-i.block) inv.drawn in_box off)
 

@@ -1,11 +1,12 @@
-ghost use Rattle.std.specs.Prelude.{◌≡◌, ◌^◌, ◌≤◌, cond, pos, ◌-ℤ◌, ◌*ℤ◌, int_le, unsigned_abs};
+ghost use Rattle.std.specs.Prelude.{◌≡◌, if◌then◌else◌, pos, ◌-ℤ◌, ◌*ℤ◌, int_le};
 ghost use Rattle.geometry.specs.Cells.{cell_at, low, high, sign};
-ghost use Rattle.geometry.specs.Read.{first_of, second_of, along, half, point_of, flat_edge};
+ghost use Rattle.geometry.specs.Geometry.{edge};
+ghost use Rattle.geometry.specs.Points.{point_of};
+ghost use Rattle.geometry.specs.Read.{first_of, second_of, along, half, flat_edge};
 
-use super::{Axis, Flat};
+use super::{Axis, Flat, View};
 use crate::arith::{det, diff};
-use crate::bounded::Bounded;
-use crate::bounded::make::end_of;
+use crate::bounded::{Bounded, Coordinate};
 use crate::mesh::{Cell, Point};
 
 impl Axis {
@@ -22,51 +23,49 @@ impl Axis {
 
     /// The two coordinates across the axis.
     pub(crate) fn seen(self, p: Bounded) -> Flat
-        ensures a { result.a ≡ first_of self (point_of p) }
-        ensures b { result.b ≡ second_of self (point_of p) }
+        ensures a { result.a.value ≡ first_of self (point_of p) }
+        ensures b { result.b.value ≡ second_of self (point_of p) }
     {
         match self {
-            Axis::X => Flat {
-                a: p.point.y,
-                b: p.point.z,
-            },
-            Axis::Y => Flat {
-                a: p.point.z,
-                b: p.point.x,
-            },
-            Axis::Z => Flat {
-                a: p.point.x,
-                b: p.point.y,
-            },
+            Axis::X => Flat { a: p.y, b: p.z },
+            Axis::Y => Flat { a: p.z, b: p.x },
+            Axis::Z => Flat { a: p.x, b: p.y },
         }
+    }
+
+    /// Which side of the line from `u` to `v`, seen along the axis, the point `q` is on, and how far, times the length from `u` to `v`.
+    pub(crate) fn edge(self, u: Bounded, v: Bounded, q: Bounded) -> i32
+        ensures { result ≡ edge (first_of self) (second_of self) (point_of u) (point_of v) (point_of q) }
+    {
+        edge(self.seen(u), self.seen(v), self.seen(q))
     }
 
     /// A corner of the cell, seen along the axis, at the high ends that the flags name.
     pub(crate) fn corner(self, c: Cell, a_up: bool, b_up: bool) -> Flat
-        ensures a { result.a ≡ cond a_up (high half (first_of self (cell_at c.x c.y c.z))) (low half (first_of self (cell_at c.x c.y c.z))) }
-        ensures b { result.b ≡ cond b_up (high half (second_of self (cell_at c.x c.y c.z))) (low half (second_of self (cell_at c.x c.y c.z))) }
+        ensures a { result.a.value ≡ (if a_up then high half (first_of self (cell_at c.x c.y c.z)) else low half (first_of self (cell_at c.x c.y c.z))) }
+        ensures b { result.b.value ≡ (if b_up then high half (second_of self (cell_at c.x c.y c.z)) else low half (second_of self (cell_at c.x c.y c.z))) }
     {
         match self {
             Axis::X => Flat {
-                a: end_of(c.y, a_up),
-                b: end_of(c.z, b_up),
+                a: Coordinate::end(c.y, a_up),
+                b: Coordinate::end(c.z, b_up),
             },
             Axis::Y => Flat {
-                a: end_of(c.z, a_up),
-                b: end_of(c.x, b_up),
+                a: Coordinate::end(c.z, a_up),
+                b: Coordinate::end(c.x, b_up),
             },
             Axis::Z => Flat {
-                a: end_of(c.x, a_up),
-                b: end_of(c.y, b_up),
+                a: Coordinate::end(c.x, a_up),
+                b: Coordinate::end(c.y, b_up),
             },
         }
     }
 }
 
-/// Which side of the line from `u` to `v` the point `q` is on, and how far, times the length from `u` to `v`.
-pub(crate) fn edge(u: Flat, v: Flat, q: Flat) -> i64
-    ensures value { result ≡ flat_edge u.a u.b v.a v.b q.a q.b }
-    ensures small { unsigned_abs result ≤ 2 ^ 29 }
+/// The same of points that are seen along an axis.
+#[tactic(auto, using(crate::proofs::Casts::casts), unfolding(crate::specs::Read::flat_edge))]
+pub(crate) fn edge(u: Flat, v: Flat, q: Flat) -> i32
+    ensures { result ≡ flat_edge u.a.value u.b.value v.a.value v.b.value q.a.value q.b.value }
 {
     det(
         diff(v.a, u.a),
@@ -74,18 +73,29 @@ pub(crate) fn edge(u: Flat, v: Flat, q: Flat) -> i64
         diff(q.a, u.a),
         diff(q.b, u.b),
     )
+    .value
 }
 
-/// Whether the line from `u` to `v` has this value at its inner side, or 0; the sign of `way` tells which side is the inner one.
-pub(crate) fn is_inner(way: i32, value: i64) -> bool
-    ensures { result ≡ int_le (pos 0) (sign way *ℤ value) }
-{
-    if way >= 0 { value >= 0 } else { value <= 0 }
-}
+impl View {
+    /// Whether a line has this value at its inner side, or 0.
+    pub(crate) fn is_inner(self, value: i32) -> bool
+        ensures { result ≡ int_le (pos 0) (sign self.way *ℤ value) }
+    {
+        if self.way >= 0 {
+            value >= 0
+        } else {
+            value <= 0
+        }
+    }
 
-/// Whether it goes up from `from` to `to`, or neither up nor down; the sign of `way` tells which way is up.
-pub(crate) fn rises(way: i32, from: i32, to: i32) -> bool
-    ensures { result ≡ int_le (pos 0) (sign way *ℤ (to -ℤ from)) }
-{
-    if way >= 0 { from <= to } else { to <= from }
+    /// Whether it goes up from `from` to `to`, or neither up nor down, where `way` tells which way is up.
+    pub(crate) fn rises(self, from: Coordinate, to: Coordinate) -> bool
+        ensures { result ≡ int_le (pos 0) (sign self.way *ℤ (to.value -ℤ from.value)) }
+    {
+        if self.way >= 0 {
+            from.value <= to.value
+        } else {
+            to.value <= from.value
+        }
+    }
 }

@@ -2,37 +2,72 @@ ghost use Rattle.std.specs.Prelude.{◌≡◌, ◌&&◌, pos, ◌+ℤ◌, ◌*�
 ghost use Rattle.std.specs.Option.{option_map};
 ghost use Rattle.geometry.specs.Cells.{cell_at, centre, low, high, middle};
 ghost use Rattle.geometry.specs.Range.{in_range, point_in_range};
-ghost use Rattle.geometry.specs.Read.{half, corner_of, point_of};
+ghost use Rattle.geometry.specs.Points.{coordinate_of, point_of};
+ghost use Rattle.geometry.specs.Read.{half, corner_of};
 
-use super::{Bounded, GREATEST, LEAST};
+use super::{Bounded, Coordinate, GREATEST, LEAST};
 use crate::mesh::{Cell, Point};
 
 /// Half the width of a cell. All that depends on the width depends on it by this constant.
 pub const HALF_WIDTH: i32 = 8;
 
-fn is_in_range(c: i32) -> bool
-    ensures { result ≡ in_range c }
-{
-    LEAST <= c && c <= GREATEST
+/// The width of a cell.
+pub const WIDTH: i64 = 2 * HALF_WIDTH as i64;
+
+impl Coordinate {
+    /// The coordinate, if it is in range.
+    fn new(value: i32) -> Option<Coordinate>
+        ensures { option_map coordinate_of result ≡ (if in_range value then Some value else None) }
+    {
+        if (LEAST..=GREATEST).contains(&value) {
+            Some(Coordinate { value })
+        } else {
+            None
+        }
+    }
+
+    /// The middle of cell `k` on an axis.
+    pub(crate) fn middle(k: u8) -> Coordinate
+        ensures { result.value ≡ middle half (pos k) }
+    {
+        Coordinate {
+            value: 2 * HALF_WIDTH * i32::from(k) + HALF_WIDTH,
+        }
+    }
+
+    /// An end of cell `k` on an axis, the high one if `up`.
+    pub(crate) fn end(k: u8, up: bool) -> Coordinate
+        ensures { result.value ≡ (if up then high half (pos k) else low half (pos k)) }
+    {
+        let least = 2 * HALF_WIDTH * i32::from(k);
+        Coordinate {
+            value: if up { least + 2 * HALF_WIDTH } else { least },
+        }
+    }
 }
 
 impl Bounded {
     /// The point, if all its coordinates are in range.
+    #[tactic(auto, using(crate::proofs::Casts::casts, crate::proofs::Checked::and_false))]
     pub fn new(p: Point) -> Option<Bounded>
         ensures { option_map point_of result ≡ (if point_in_range p then Some p else None) }
     {
-        if is_in_range(p.x) && is_in_range(p.y) && is_in_range(p.z) {
-            Some(Bounded { point: p })
-        } else {
-            None
-        }
+        Some(Bounded {
+            x: Coordinate::new(p.x)?,
+            y: Coordinate::new(p.y)?,
+            z: Coordinate::new(p.z)?,
+        })
     }
 
     /// The point itself.
     pub fn point(&self) -> Point
         ensures { result ≡ point_of self.now }
     {
-        self.point
+        Point {
+            x: self.x.value,
+            y: self.y.value,
+            z: self.z.value,
+        }
     }
 
     /// The centre of a cell.
@@ -40,11 +75,9 @@ impl Bounded {
         ensures { point_of result ≡ centre half (cell_at c.x c.y c.z) }
     {
         Bounded {
-            point: Point {
-                x: middle_of(c.x),
-                y: middle_of(c.y),
-                z: middle_of(c.z),
-            },
+            x: Coordinate::middle(c.x),
+            y: Coordinate::middle(c.y),
+            z: Coordinate::middle(c.z),
         }
     }
 
@@ -53,26 +86,9 @@ impl Bounded {
         ensures { point_of result ≡ corner_of half (cell_at c.x c.y c.z) x y z }
     {
         Bounded {
-            point: Point {
-                x: end_of(c.x, x),
-                y: end_of(c.y, y),
-                z: end_of(c.z, z),
-            },
+            x: Coordinate::end(c.x, x),
+            y: Coordinate::end(c.y, y),
+            z: Coordinate::end(c.z, z),
         }
     }
-}
-
-/// The middle of cell `k` on an axis.
-pub(crate) fn middle_of(k: u8) -> i32
-    ensures { result ≡ middle half (pos k) }
-{
-    2 * HALF_WIDTH * k as i32 + HALF_WIDTH
-}
-
-/// An end of cell `k` on an axis, the high one if `up`.
-pub(crate) fn end_of(k: u8, up: bool) -> i32
-    ensures { result ≡ (if up then high half (pos k) else low half (pos k)) }
-{
-    let least = 2 * HALF_WIDTH * k as i32;
-    if up { least + 2 * HALF_WIDTH } else { least }
 }

@@ -1,37 +1,45 @@
-ghost use Rattle.std.specs.Prelude.{◌≡◌, ◌^◌, ◌≤◌, if◌then◌else◌, Some, None, unsigned_abs};
+ghost use Rattle.std.specs.Prelude.{◌≡◌, ◌^◌, ◌≤◌, ◌-ℤ◌, if◌then◌else◌, Some, None, unsigned_abs};
 ghost use Rattle.std.specs.Option.{option_map};
 ghost use Rattle.geometry.specs.Geometry.{normal_of, plane};
+ghost use Rattle.geometry.specs.Points.{normal_point, point_of};
 ghost use Rattle.geometry.specs.Range.{triangle_in_range};
-ghost use Rattle.geometry.specs.Read.{point_of, triangle_of};
+ghost use Rattle.geometry.specs.Read.{triangle_of};
 
 use super::Facet;
-use crate::arith::{det, diff, dot};
+use crate::arith::{Gaps, Normal, det, diff, dot};
 use crate::bounded::Bounded;
 use crate::mesh::{Point, Triangle};
 
-/// The cross product of the first two sides.
-fn cross(v0: Bounded, v1: Bounded, v2: Bounded) -> Point
-    ensures value { result ≡ normal_of (record { v0 = point_of v0; v1 = point_of v1; v2 = point_of v2 }) }
-    ensures small { (unsigned_abs result.x ≤ 2 ^ 29) × ((unsigned_abs result.y ≤ 2 ^ 29) × (unsigned_abs result.z ≤ 2 ^ 29)) }
+/// b − a
+fn gaps(a: Bounded, b: Bounded) -> Gaps
+    ensures x { result.x.value ≡ b.x.value -ℤ a.x.value }
+    ensures y { result.y.value ≡ b.y.value -ℤ a.y.value }
+    ensures z { result.z.value ≡ b.z.value -ℤ a.z.value }
 {
-    let ax = diff(v1.point.x, v0.point.x);
-    let ay = diff(v1.point.y, v0.point.y);
-    let az = diff(v1.point.z, v0.point.z);
-    let bx = diff(v2.point.x, v1.point.x);
-    let by = diff(v2.point.y, v1.point.y);
-    let bz = diff(v2.point.z, v1.point.z);
-    let x = det(ay, az, by, bz);
-    let y = det(az, ax, bz, bx);
-    let z = det(ax, ay, bx, by);
-    Point {
-        x: x as i32,
-        y: y as i32,
-        z: z as i32,
+    Gaps {
+        x: diff(b.x, a.x),
+        y: diff(b.y, a.y),
+        z: diff(b.z, a.z),
+    }
+}
+
+/// The cross product of the first two sides.
+#[tactic(auto, using(crate::proofs::Casts::casts, crate::proofs::Bounds::product_is), unfolding(crate::specs::Geometry::normal_of))]
+fn cross(v0: Bounded, v1: Bounded, v2: Bounded) -> Normal
+    ensures { normal_point result ≡ normal_of (record { v0 = point_of v0; v1 = point_of v1; v2 = point_of v2 }) }
+{
+    let a = gaps(v0, v1);
+    let b = gaps(v1, v2);
+    Normal {
+        x: det(a.y, a.z, b.y, b.z),
+        y: det(a.z, a.x, b.z, b.x),
+        z: det(a.x, a.y, b.x, b.y),
     }
 }
 
 impl Facet {
     /// The triangle, if all its coordinates are in range.
+    #[tactic(auto, using(crate::proofs::Casts::casts, crate::proofs::Checked::and_false))]
     pub fn new(t: Triangle) -> Option<Facet>
         ensures { option_map triangle_of result ≡ (if triangle_in_range t then Some t else None) }
     {
@@ -51,9 +59,9 @@ impl Facet {
         ensures { result ≡ triangle_of self.now }
     {
         Triangle {
-            v0: self.v0.point,
-            v1: self.v1.point,
-            v2: self.v2.point,
+            v0: self.v0.point(),
+            v1: self.v1.point(),
+            v2: self.v2.point(),
         }
     }
 
@@ -61,23 +69,19 @@ impl Facet {
     pub fn normal(&self) -> Point
         ensures { result ≡ normal_of (triangle_of self.now) }
     {
-        self.normal
+        Point {
+            x: self.normal.x.value,
+            y: self.normal.y.value,
+            z: self.normal.z.value,
+        }
     }
 
     /// The value of the triangle's plane at `p`: the product of the normal and p − v0.
+    #[tactic(auto, using(crate::proofs::Casts::casts, crate::proofs::Bounds::product_is), unfolding(crate::specs::Geometry::plane))]
     pub(crate) fn plane(&self, p: Bounded) -> i64
         ensures value { result ≡ plane (point_of p) (triangle_of self.now) }
         ensures small { unsigned_abs result ≤ 2 ^ 45 }
     {
-        let n = self.normal;
-        let v = self.v0.point;
-        dot(
-            n.x,
-            n.y,
-            n.z,
-            diff(p.point.x, v.x),
-            diff(p.point.y, v.y),
-            diff(p.point.z, v.z),
-        )
+        dot(self.normal, gaps(self.v0, p))
     }
 }

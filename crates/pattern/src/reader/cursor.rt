@@ -12,7 +12,7 @@ use refusals::{BoxSide, Refusal};
 fn behind_first(text: &[u8]) -> &[u8]
     ensures { result.now ≡ drop 1 text.now }
 {
-    if text.is_empty() { text } else { &text[1..] }
+    text.get(1..).unwrap_or(text)
 }
 
 impl<'a> Reader<'a> {
@@ -62,26 +62,18 @@ impl<'a> Reader<'a> {
     fn read_side(&mut self) -> Result<BoxSide, Refusal>
         ensures { SideRead (side_from self.old.state (stand_of self.old).left) self.new result }
     {
-        let Some(line) = self.next_line() else {
-            return Err(Refusal::StrayLine { line: 0 });
-        };
+        let line = self.next_line().ok_or(Refusal::StrayLine { line: 0 })?;
         let at = self.line;
-        match line {
-            Line::Side(word) => {
-                if !self.state.step(Kind::Side) {
-                    return Err(Refusal::StrayLine { line: at });
-                }
-                let Some(n) = word.number() else {
-                    return Err(Refusal::BadNumber { line: at });
-                };
-                let Ok(side) = BoxSide::try_from(n) else {
-                    return Err(Refusal::OddSide { line: Some(at) });
-                };
-                self.side = Some(side);
-                Ok(side)
-            }
-            _ => Err(Refusal::StrayLine { line: at }),
-        }
+        let Line::Side(word) = line else {
+            return Err(Refusal::StrayLine { line: at });
+        };
+        self.state
+            .step(Kind::Side)
+            .map_err(|_| Refusal::StrayLine { line: at })?;
+        let n = word.number().ok_or(Refusal::BadNumber { line: at })?;
+        let side = BoxSide::try_from(n).map_err(|_| Refusal::OddSide { line: Some(at) })?;
+        self.side = Some(side);
+        Ok(side)
     }
 
     /// The side of the box, which the first line tells. Once it is read, it is told again.

@@ -1,11 +1,11 @@
-ghost use Rattle.std.specs.Prelude.{◌≡◌};
-ghost use Rattle.pattern.specs.Pattern.{Stays, answer, written};
-ghost use Rattle.pattern.specs.Read.{Begun, BodyRead, EntryHeard, EntryRead, WellTold, body_of, part_of, stand_of};
+ghost use Rattle.std.specs.Prelude.{◌≡◌, IfOk, IfSome};
+ghost use Rattle.pattern.specs.Pattern.{FitsTrays, Stays, answer, written};
+ghost use Rattle.pattern.specs.Read.{AllTold, Begun, BodyRead, EntryHeard, EntryRead, body_of, part_of, stand_of};
 
 use super::{Counts, Reader};
 use crate::line::Line;
 use crate::state::{Kind, State};
-use crate::word::Word;
+use crate::word::Triple;
 use geometry::{Face, Point};
 use refusals::Refusal;
 
@@ -17,12 +17,10 @@ impl<'a> Reader<'a> {
         let Some(line) = self.next_line() else {
             return Ok(false);
         };
-        if let Line::Part = line {
-            if self.state.step(Kind::Part) {
-                return Ok(true);
-            }
+        if line != Line::Part || self.state.step(Kind::Part).is_err() {
+            return Err(Refusal::StrayLine { line: self.line });
         }
-        Err(Refusal::StrayLine { line: self.line })
+        Ok(true)
     }
 
     /// The next line of a part; none, and this reader stays, where the part ends before the next line or with the text.
@@ -41,24 +39,17 @@ impl<'a> Reader<'a> {
 
     /// The three numbers of the line of this kind that was just read, where there is room for so many more: 13 where such a line may not
     /// come, then 14 where a word is no number, then 15 where there is no room.
-    fn read_entry(
-        &mut self,
-        kind: Kind,
-        room: usize,
-        a: Word,
-        b: Word,
-        c: Word,
-    ) -> Result<(i32, i32, i32), Refusal>
-        requires a_told { WellTold a }
-        requires b_told { WellTold b }
-        requires c_told { WellTold c }
-        ensures { EntryRead self.old self.new kind room a.entry b.entry c.entry result }
+    fn read_entry(&mut self, kind: Kind, room: usize, words: Triple) -> Result<(i32, i32, i32), Refusal>
+        requires { AllTold words }
+        ensures { EntryRead self.old self.new kind room words.entry result }
     {
         let line = self.line;
-        if !self.state.step(kind) {
-            return Err(Refusal::StrayLine { line });
-        }
-        let (Some(x), Some(y), Some(z)) = (a.number(), b.number(), c.number()) else {
+        self.state
+            .step(kind)
+            .map_err(|_| Refusal::StrayLine { line })?;
+        let (Some(x), Some(y), Some(z)) =
+            (words.first.number(), words.second.number(), words.third.number())
+        else {
             return Err(Refusal::BadNumber { line });
         };
         if room == 0 {
@@ -72,6 +63,7 @@ impl<'a> Reader<'a> {
         ensures read { BodyRead (body_of self.old points.old faces.old) (stand_of self.new) result }
         ensures points { points.new ≡ written (body_of self.old points.old faces.old).points points.old }
         ensures faces { faces.new ≡ written (body_of self.old points.old faces.old).faces faces.old }
+        ensures room { IfOk result (FitsTrays points.new faces.new) }
     {
         let mut counts = Counts {
             points: 0,
@@ -79,25 +71,15 @@ impl<'a> Reader<'a> {
         };
         while let Some(line) = self.next_entry() {
             match line {
-                Line::Point(a, b, c) => {
-                    let (x, y, z) = self.read_entry(
-                        Kind::Point,
-                        points.len() - counts.points,
-                        a,
-                        b,
-                        c,
-                    )?;
+                Line::Point(words) => {
+                    let room = points.len() - counts.points;
+                    let (x, y, z) = self.read_entry(Kind::Point, room, words)?;
                     points[counts.points] = Point { x, y, z };
                     counts.points += 1;
                 }
-                Line::Face(a, b, c) => {
-                    let (a, b, c) = self.read_entry(
-                        Kind::Face,
-                        faces.len() - counts.faces,
-                        a,
-                        b,
-                        c,
-                    )?;
+                Line::Face(words) => {
+                    let room = faces.len() - counts.faces;
+                    let (a, b, c) = self.read_entry(Kind::Face, room, words)?;
                     faces[counts.faces] = Face { a, b, c };
                     counts.faces += 1;
                 }
@@ -120,9 +102,10 @@ impl<'a> Reader<'a> {
         ensures reader { Stays stand_of (part_of self.old points.old faces.old).end self.old self.new }
         ensures points { points.new ≡ written (part_of self.old points.old faces.old).points points.old }
         ensures faces { faces.new ≡ written (part_of self.old points.old faces.old).faces faces.old }
+        ensures room { IfOk result (λ part. IfSome part (FitsTrays points.new faces.new)) }
     {
         let mut ahead = *self;
-        let _side = ahead.side()?;
+        ahead.side()?;
         let before_part = ahead;
         if !ahead.begin_part()? {
             *self = before_part;

@@ -1,5 +1,5 @@
 use Rattle.std.proofs.Common.{◌≡◌, length}
 use Rattle.report.proofs.report_parts.Given as goal
 
-abbrev pub invariant-loop-part : goal.invariant-loop-part
-invariant-loop-part l = (length l.points ≡ 256) × (length l.faces ≡ 256)
+abbrev pub invariant-loop-number : goal.invariant-loop-number
+invariant-loop-number l = (length l.points ≡ 256) × (length l.faces ≡ 256)

@@ -27,7 +27,7 @@ impl Sheet {
 
     /// Whether sixteen lines stand, so that there is no room for another.
     pub fn is_full(&self) -> bool
-        ensures { IsTrue result ↔ (length (lines_of self.now) ≡ 16) }
+        ensures { IsTrue result ↔ (16 ≤ length (lines_of self.now)) }
     {
         self.used == MOST_LINES
     }

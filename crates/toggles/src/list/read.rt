@@ -8,20 +8,6 @@ ghost use Rattle.toggles.specs.Toggled.{Tells};
 use super::Toggles;
 use crate::search::find_place;
 
-/// The key at the place `i`, or none past the end.
-fn copy_at<K: Copy>(keys: &[K], i: usize) -> Option<K>
-    ensures { result ≡ slice_get keys.now i }
-{
-    keys.get(i).copied()
-}
-
-/// Whether `key` is among `keys`, which rise.
-fn is_among<K: Ord>(keys: &[K], key: &K) -> bool
-    ensures { Tells K.Ord.cmp keys.now key.now result }
-{
-    find_place(keys, key).is_ok()
-}
-
 impl<'a, K: Ord + Copy> Toggles<'a, K> {
     /// The keys present, which stand at the front of the lent slice.
     pub fn present(&self) -> &[K]
@@ -56,14 +42,15 @@ impl<'a, K: Ord + Copy> Toggles<'a, K> {
     pub fn get(&self, i: usize) -> Option<K>
         ensures { result ≡ slice_get (present self.now) i }
     {
-        copy_at(self.present(), i)
+        self.present().get(i).copied()
     }
 
     /// Whether `key` is present.
+    #[tactic(auto, using(crate::proofs::Toggling::place_tells))]
     pub fn has(&self, key: &K) -> bool
         ensures { Tells K.Ord.cmp (present self.now) key.now result }
     {
-        is_among(self.present(), key)
+        self.place(key).is_ok()
     }
 
     /// The place of `key` among the keys present, or else the place at which it belongs.

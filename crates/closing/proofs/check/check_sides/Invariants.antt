@@ -5,5 +5,8 @@ use Rattle.closing.proofs.check.check_sides.Given as goal
 
 -- the loose sides are those of the triangles so far, three for each at most
 abbrev pub invariant-loop-t : goal.invariant-loop-t
-invariant-loop-t l =
-    (room l.loose ≡ room l.initial.loose) × (size l.loose ≤ 3 * l.t-index) × Holds (present l.loose) (take l.t-index l.triangles)
+invariant-loop-t l = record {
+  same_room : room l.loose ≡ room l.initial.loose;
+  few : size l.loose ≤ 3 * l.t-index;
+  holds : Holds (present l.loose) (take l.t-index l.triangles)
+}

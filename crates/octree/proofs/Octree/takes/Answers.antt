@@ -1,16 +1,6 @@
-use Rattle.std.proofs.Common.{sym, ◌∙◌, subst}
-use Rattle.octree.specs.OnTheWay.{Lies, Planned, Readable}
-use Rattle.octree.proofs.Wholes.{row_lies, whole_readable, whole_takes}
+use Rattle.std.proofs.Common.{◌∙◌}
+use Rattle.octree.proofs.Wholes.{whole_takes}
 use Rattle.octree.proofs.Octree.takes.Goals as goal
 
-pub plan-change-requires : goal.plan-change-requires
-plan-change-requires c = record {
-  readable = subst (λ n. Readable c.args.self.now.groups.now n c.args.self.now.root) (sym c.level_of.ensures.0) (whole_readable c.args.self.now.edge c.args.self.now.groups.now c.args.self.now.root c.args.self.now.unused c.requires.sound);
-  lies = subst (λ n. Lies n (record { from = c.args.l; to = c.args.r; y = c.args.y; z = c.args.z })) (sym c.level_of.ensures.0) (row_lies c.args.self.now.edge c.args.y c.args.z c.args.l c.args.r c.requires.sound.a_side c.requires.inside);
-}
-
 pub returns : goal.returns
-returns c =
-    c.cover.ensures
-    ∙ whole_takes c.args.self.now.edge c.args.self.now.groups.now c.args.self.now.root c.args.self.now.unused c.requires.sound (record { from = c.args.l; to = c.args.r; y = c.args.y; z = c.args.z }) (row_lies c.args.self.now.edge c.args.y c.args.z c.args.l c.args.r c.requires.sound.a_side c.requires.inside) c.plan-change.result
-    (subst (λ n. Planned c.args.self.now.groups.now n c.args.self.now.root (record { from = c.args.l; to = c.args.r; y = c.args.y; z = c.args.z }) c.plan-change.result) c.level_of.ensures.0 c.plan-change.ensures)
+returns c = c.cover.ensures ∙ whole_takes c.args.self.now c.requires.sound c.of_box.result.number c.of_box.ensures c.args.run c.requires.inside c.plan-change.result c.plan-change.ensures

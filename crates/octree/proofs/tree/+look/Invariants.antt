@@ -1,4 +1,4 @@
 use Rattle.octree.proofs.tree.+look.Given as goal
 
 abbrev pub decreases-look : goal.decreases-look
-decreases-look l = l.level
+decreases-look l = l.level.number

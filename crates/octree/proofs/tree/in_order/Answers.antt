@@ -1,34 +1,12 @@
-use Rattle.std.proofs.Common.{◌-◌, arith}
-use Rattle.octree.proofs.Places.{width_low}
+use Rattle.std.proofs.Common.{refl}
 use Rattle.octree.proofs.Planning.{low_first, high_first, part_lies_in}
 use Rattle.octree.proofs.tree.in_order.Goals as goal
 
-pub plan-lower-requires : goal.plan-lower-requires
-plan-lower-requires c = record {
-  readable = c.requires.readable c.halves.result.0.child c.halves.ensures.within.0;
-  lies = part_lies_in (c.args.level - 1) c.args.level c.args.run _ c.halves.result.0 (omega arith) c.halves.ensures.parts.0 c.requires.lies;
-}
-
-pub plan-higher-requires : goal.plan-higher-requires
-plan-higher-requires c = record {
-  readable = c.requires.readable c.halves.result.1.child c.halves.ensures.within.1;
-  lies = part_lies_in (c.args.level - 1) c.args.level c.args.run _ c.halves.result.1 (omega arith) c.halves.ensures.parts.1 c.requires.lies;
-}
-
-pub overflow_add-lower : goal.overflow_add-lower
-overflow_add-lower c = omega (arith, width_low (c.args.level - 1) (omega arith), c.plan-lower.ensures.few_after, c.plan-higher.ensures.few_before)
-
-pub overflow_add-higher : goal.overflow_add-higher
-overflow_add-higher c = omega (arith, width_low (c.args.level - 1) (omega arith), c.plan-higher.ensures.few_after, c.plan-lower.ensures.few_before)
+pub plan-higher-requires-clause-lies : goal.plan-higher-requires-clause-lies
+plan-higher-requires-clause-lies c = part_lies_in c.args.level.number _ c.args.run _ c.halves.result.1 refl c.halves.ensures.1 c.requires.lies
 
 pub returns-then-lower-higher : goal.returns-then-lower-higher
-returns-then-lower-higher c = record {
-  order = low_first c.args.groups.now (c.args.level - 1) c.args.children c.args.run c.halves.result.0 c.halves.result.1 c.plan-lower.result c.plan-higher.result c.halves.ensures.parts c.plan-lower.ensures c.plan-higher.ensures c.if-lower-higher.true;
-  within = c.halves.ensures.within;
-}
+returns-then-lower-higher c = low_first c.args.store.now.groups.now c.args.level.number c.args.children c.args.run c.halves.result.0 c.halves.result.1 c.plan-lower.result c.plan-higher.result c.halves.ensures c.plan-lower.ensures c.plan-higher.ensures c.if-lower-higher.true
 
 pub returns-else-lower-higher : goal.returns-else-lower-higher
-returns-else-lower-higher c = record {
-  order = high_first c.args.groups.now (c.args.level - 1) c.args.children c.args.run c.halves.result.0 c.halves.result.1 c.plan-lower.result c.plan-higher.result c.halves.ensures.parts c.plan-lower.ensures c.plan-higher.ensures c.if-lower-higher.false;
-  within = (c.halves.ensures.within.1, c.halves.ensures.within.0);
-}
+returns-else-lower-higher c = high_first c.args.store.now.groups.now c.args.level.number c.args.children c.args.run c.halves.result.0 c.halves.result.1 c.plan-lower.result c.plan-higher.result c.halves.ensures c.plan-lower.ensures c.plan-higher.ensures c.if-lower-higher.false

@@ -1,4 +1,4 @@
 use Rattle.octree.proofs.turn.+turn.Given as goal
 
 abbrev pub decreases-turn : goal.decreases-turn
-decreases-turn l = l.level
+decreases-turn l = l.level.number

@@ -1,12 +1,17 @@
-use Rattle.std.proofs.Common.{arith}
+use Rattle.std.proofs.Common.{ℤ, arith}
 use Rattle.std.proofs.lemmas.Int.{to_z-of_z}
-use Rattle.geometry.proofs.Ranges.{in_range_low, in_range_high}
+use Rattle.geometry.specs.declared.mesh.Point.{Point}
+use Rattle.geometry.specs.Range.{in_range}
+use Rattle.geometry.proofs.Checked.{and_false, none_is, three_made}
 use Rattle.geometry.proofs.bounded.Bounded.new.Goals as goal
 
-pub invariant_of-result : goal.invariant_of-result
-invariant_of-result c =
+pub returns-in_err-new-3 : goal.returns-in_err-new-3
+returns-in_err-new-3 c =
+    let e = none_is (in_range c.args.p.z) c.args.p.z (grind (arith, to_z-of_z)) in
+    grind (arith, to_z-of_z, and_false)
+
+pub returns : goal.returns
+returns c =
     let p = c.args.p in
-    let xl = in_range_low p.x (grind (arith, to_z-of_z)) in let xh = in_range_high p.x (grind (arith, to_z-of_z)) in
-    let yl = in_range_low p.y (grind (arith, to_z-of_z)) in let yh = in_range_high p.y (grind (arith, to_z-of_z)) in
-    let zl = in_range_low p.z (grind (arith, to_z-of_z)) in let zh = in_range_high p.z (grind (arith, to_z-of_z)) in
-    record { x_in_range = (xl, xh); y_in_range = (yl, yh); z_in_range = (zl, zh) }
+    three_made (in_range p.x) (in_range p.y) (in_range p.z) p.x p.y p.z _ _ _ (λ (x y z : ℤ). let q : Point = record { x = x; y = y; z = z } in q)
+    (grind (arith, to_z-of_z)) (grind (arith, to_z-of_z)) (grind (arith, to_z-of_z))

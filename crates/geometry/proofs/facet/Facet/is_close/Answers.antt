@@ -1,13 +1,7 @@
-use Rattle.std.proofs.Common.{nat_abs, ap, arith}
+use Rattle.std.proofs.Common.{arith}
 use Rattle.std.proofs.lemmas.Int.{to_z-of_z}
-use Rattle.geometry.specs.Geometry.{plane, normal_of}
-use Rattle.geometry.specs.Read.{along, half, point_of, triangle_of}
-use Rattle.geometry.proofs.Signs.{close_is}
+use Rattle.geometry.proofs.Signs.{size_is}
 use Rattle.geometry.proofs.facet.Facet.is_close.Goals as goal
 
 pub returns : goal.returns
-returns c =
-    let t = triangle_of c.args.self.now in
-    let e = close_is (nat_abs half) (plane (point_of c.args.q) t) (along c.args.axis (normal_of t)) in
-    let n = ap (along c.args.axis) c.args.self.now.is_normal in
-    grind (arith, to_z-of_z)
+returns c = grind (arith, to_z-of_z, size_is)
