@@ -1,7 +1,7 @@
 -- Flips, made one after the other.
 use Rattle.std.proofs.Common.{◌≡◌, ℕ, zero, suc, ◌+◌, ◌<◌, Bool, true, false, cond, ◌&&◌, List, [], ◌∷◌, ◌++◌, length, get_or, take, drop, is_ok, Some, None, Ok, Err, Result, sym, refl, ap, ◌∙◌, subst, arith}
 use Rattle.std.proofs.lemmas.List.{take_more, drop_more, take-append-drop}
-use Rattle.std.proofs.lemmas.List.Elements.{All-get_or, All-take}
+use Rattle.std.proofs.lemmas.List.Elements.{All-get_or}
 use Rattle.std.proofs.lemmas.Bool.{cond-true, cond-false, and_parts, and_from, and_left, and_right}
 use Rattle.refusals.specs.declared.Refusal.{Refusal}
 use Rattle.refusals.specs.declared.Refusal.TheVariants.{NoSand}
@@ -69,9 +69,6 @@ made_if n F d e w q inside h =
     (ok, h.1 ∙ ap (λ b. cond b (changed n d w) d) ok, told)
 
 -- ---- the flip w at the place i of a list that lies in the box, on the way from the drawing d
-
-pub in_box_front : {m n : ℕ} (ws : List Run) (i : ℕ) → m ≡ n → InBox n ws → InBox m (take i ws)
-in_box_front {m} {n} ws i side h = subst (λ (k : ℕ). InBox k (take i ws)) (sym side) (All-take (λ w. in_row n w ≡ true) i ws h)
 
 module _ (n : ℕ) (F : (ℕ → Bool) → Bool) (d : ℕ → Bool) (ws : List Run) (i : ℕ) (w v : Run) (h : i < length ws) (at : w ≡ get_or ws i v) (box : InBox n ws) where
   abbrev here : ℕ → Bool

@@ -9,10 +9,6 @@ use Rattle.flips.specs.Drawn.{drawn, all_fit, flips_answer, InBox}
 use Rattle.flips.proofs.Made.{drawn_append, all_fit_append, fits_end, fit_moved}
 use Rattle.flips.proofs.Rows.{row_in_box, row_y, row_z, numbered, rows_all, rows_more}
 
--- the flips of the row of the number i, as the code takes them, in a box of m cells a side, which is n
-pub row_cut : (n : ℕ) (solid : ℕ → ℕ → ℕ → Bool) (i : ℕ) {m : ℕ} {vs ws : List Run} → m ≡ n → ws ≡ vs → vs ≡ numbered m solid i → ws ≡ numbered n solid i
-row_cut n solid i side same cut = same ∙ cut ∙ ap (λ j. numbered j solid i) side
-
 module _ (n : ℕ) (solid : ℕ → ℕ → ℕ → Bool) (i : ℕ) (fs : List Run) (cut : fs ≡ numbered n solid i) where
   -- the flips of a row lie in the box
   pub cut_in_box : {m : ℕ} → m ≡ n → i < n * n → InBox m fs

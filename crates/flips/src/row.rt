@@ -26,6 +26,7 @@ fn row_at(side: BoxSide, number: usize) -> Row
     ensures z { result.z ≡ number / cells_of side }
 {
     let n = side.cells();
+    // `as`: both are below 64, and `try_from` would answer an error that cannot come
     Row {
         y: (number % n) as u8,
         z: (number / n) as u8,

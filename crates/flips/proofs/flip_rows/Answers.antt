@@ -1,4 +1,4 @@
-use Rattle.std.proofs.Common.{◌≡◌, ℕ, ◌*◌, ◌<◌, Bool, cond, length, is_ok, Some, None, Err, sym, ap, ◌∙◌, subst, arith}
+use Rattle.std.proofs.Common.{◌≡◌, ℕ, ◌*◌, ◌<◌, Bool, false, cond, length, is_ok, Some, None, Err, sym, ap, ◌∙◌, subst, arith}
 use Rattle.std.proofs.lemmas.Bool.{cond-false}
 use Rattle.refusals.specs.declared.Refusal.TheVariants.{NoSand}
 use Rattle.block.specs.Drawing.{refusal_of}
@@ -7,8 +7,8 @@ use Rattle.flips.specs.Drawn.{drawn, all_fit, ChangedWhere}
 use Rattle.flips.proofs.Kept.{kept_same, kept_on}
 use Rattle.flips.proofs.Made.{done_if}
 use Rattle.flips.proofs.Cells.{flips_change}
-use Rattle.flips.proofs.Rows.{rows_none}
-use Rattle.flips.proofs.RowSteps.{row_cut, cut_in_box, count_more, row_made, row_not, all_made, none_made}
+use Rattle.flips.proofs.Rows.{numbered, rows_none}
+use Rattle.flips.proofs.RowSteps.{cut_in_box, count_more, row_made, row_not, all_made, none_made}
 use Rattle.flips.proofs.flip_rows.Goals as goal
 
 pub loop-i-init : goal.loop-i-init
@@ -31,7 +31,11 @@ make_flips-requires-clause-in_box g c =
     let solid = g.S.RowSource.solid c.args.source.now in
     let i = c.loop-i.i in
     let in_box : i < n * n = subst (λ (m : ℕ). i < m) (c.row_count-i-end.ensures ∙ ap (λ m. m * m) c.side-side.ensures) c.loop-i-test.true in
-    cut_in_box n solid i c.as_slice.result.now (row_cut n solid i c.side-side.ensures c.as_slice.ensures.value c.row_flips-flips.ensures) c.loop-i.invariant.kept.same_side in_box
+    let side = c.side-side.ensures in
+    let same = c.as_slice.ensures.value in
+    let row = c.row_flips-flips.ensures in
+    let cut : c.as_slice.result.now ≡ numbered n solid i = cc in
+    cut_in_box n solid i c.as_slice.result.now cut c.loop-i.invariant.kept.same_side in_box
 
 pub loop-i-preserved : goal.loop-i-preserved
 loop-i-preserved g c =
@@ -41,15 +45,18 @@ loop-i-preserved g c =
     let ws = c.as_slice.result.now in
     let inv = c.loop-i.invariant in
     let told = c.make_flips.ensures in
-    let cut = row_cut n solid i c.side-side.ensures c.as_slice.ensures.value c.row_flips-flips.ensures in
+    let side = c.side-side.ensures in
+    let same = c.as_slice.ensures.value in
+    let row = c.row_flips-flips.ensures in
+    let cut : ws ≡ numbered n solid i = cc in
     let done = ap is_ok c.in_default.is in
-    let row = row_made n solid (g.B.Block.fits c.args.block.now) (g.B.Block.drawing c.args.block.now) i ws cut inv.kept.same_side inv.kept.same_fits
+    let made = row_made n solid (g.B.Block.fits c.args.block.now) (g.B.Block.drawing c.args.block.now) i ws cut inv.kept.same_side inv.kept.same_fits
     (g.B.Block.drawing c.loop-i.block) inv.drawn inv.fit (sym (done_if c.make_flips.result _ told.refused) ∙ done) in
     let long : length ws ≡ c.len-count.result = ap length c.as_slice.ensures.value ∙ sym c.len-count.ensures.value in
     record {
       kept = kept_on g.B.Block.ties_on c.args.block.now c.loop-i.block c.make_flips.new.block inv.kept told.kept;
-      drawn = told.drawn ∙ ap (λ (b : Bool). cond b (drawn (g.B.Block.edge c.loop-i.block) (g.B.Block.drawing c.loop-i.block) ws) (g.B.Block.drawing c.loop-i.block)) done ∙ row.0;
-      fit = row.1;
+      drawn = told.drawn ∙ ap (λ (b : Bool). cond b (drawn (g.B.Block.edge c.loop-i.block) (g.B.Block.drawing c.loop-i.block) ws) (g.B.Block.drawing c.loop-i.block)) done ∙ made.0;
+      fit = made.1;
       counted = omega (arith, count_more n solid i ws cut c.loop-i.count c.len-count.result inv.counted long);
       few = omega (arith, inv.few, c.len-count.ensures.fits);
     }
@@ -70,9 +77,12 @@ returns-in-Err-clause-answer g c =
     let inv = c.loop-i.invariant in
     let told = c.make_flips.ensures.refused in
     let in_box : i < n * n = subst (λ (m : ℕ). i < m) (c.row_count-i-end.ensures ∙ ap (λ m. m * m) c.side-side.ensures) c.loop-i-test.true in
-    let cut = row_cut n solid i c.side-side.ensures c.as_slice.ensures.value c.row_flips-flips.ensures in
-    let off = sym (done_if c.make_flips.result _ told) ∙ ap is_ok c.in-Err.is in
-    let full : Some c.in-Err.why ≡ Some NoSand = sym (ap refusal_of c.in-Err.is) ∙ told ∙ cond-false _ None (Some NoSand) off in
+    let side = c.side-side.ensures in
+    let same = c.as_slice.ensures.value in
+    let row = c.row_flips-flips.ensures in
+    let cut : ws ≡ numbered n solid i = cc in
+    let off : all_fit (g.B.Block.edge c.loop-i.block) (g.B.Block.fits c.loop-i.block) (g.B.Block.drawing c.loop-i.block) ws ≡ false = sym (done_if c.make_flips.result _ told) ∙ ap is_ok c.in-Err.is in
+    let full : Some c.in-Err.why ≡ Some NoSand = sym (ap refusal_of c.in-Err.is) ∙ told ∙ cond-false (all_fit (g.B.Block.edge c.loop-i.block) (g.B.Block.fits c.loop-i.block) (g.B.Block.drawing c.loop-i.block) ws) None (Some NoSand) off in
     let why : c.in-Err.why ≡ NoSand = cc in
     ap Err why ∙ none_made n solid F d (row_not n solid F d i ws cut inv.kept.same_side inv.kept.same_fits (g.B.Block.drawing c.loop-i.block) inv.drawn in_box off)
 
