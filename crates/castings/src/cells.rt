@@ -1,7 +1,7 @@
 //! The cells of a box of side 2, by their numbers.
 
-use geometry::{Cell, Facet, Row};
-use rows::solid_row;
+use geometry::{Cell, Facet};
+use rows::solid_rows;
 use std::fmt;
 
 /// How many cells the box has along each axis.
@@ -46,15 +46,6 @@ impl fmt::Display for Marks {
 /// Which cells the triangles make solid.
 pub(crate) fn solid_cells(facets: &[Facet]) -> Marks {
     let mut cells = [false; 8];
-    for (number, row) in (0..4u8).zip(cells.chunks_exact_mut(SIDE as usize)) {
-        solid_row(
-            facets,
-            Row {
-                y: number % SIDE,
-                z: number / SIDE,
-            },
-            row,
-        );
-    }
+    solid_rows(facets, SIDE, &mut cells);
     Marks(cells)
 }

@@ -1,8 +1,8 @@
 //! The cells of the whole box, by their numbers.
 
-use geometry::{Facet, Row};
+use geometry::Facet;
 use refusals::BoxSide;
-use rows::solid_row;
+use rows::solid_rows;
 use std::alloc::{AllocError, Global};
 
 /// Which cells of the box the triangles make solid, by cell number.
@@ -13,10 +13,6 @@ pub(crate) fn box_cells(
 ) -> Result<Vec<bool>, AllocError> {
     let n = side.cells();
     let mut cells = vec![in heap; false; n * n * n]?;
-    for (z, layer) in (0..n as u8).zip(cells.chunks_exact_mut(n * n)) {
-        for (y, row) in (0..n as u8).zip(layer.chunks_exact_mut(n)) {
-            solid_row(facets, Row { y, z }, row);
-        }
-    }
+    solid_rows(facets, n as u8, cells.as_mut_slice());
     Ok(cells)
 }

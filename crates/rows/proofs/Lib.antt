@@ -1,3 +1,4 @@
+pub mod BoxLaws
 pub mod Odd
 pub mod RowLaws
 pub mod RunLaws

@@ -1,5 +1,5 @@
 -- The rows of a list of triangles, and the runs of solid cells.
-use Rattle.std.specs.Prelude.{◌≡◌, ℕ, ◌<◌, ◌≤◌, Bool, true, false, not, List, [], ◌∷◌, map, length, take, Some, None, Option, slice_index_or}
+use Rattle.std.specs.Prelude.{◌≡◌, ℕ, ◌+◌, ◌<◌, ◌≤◌, Bool, true, false, not, List, [], ◌∷◌, map, length, take, drop, ◌*◌, ◌/◌, ◌%◌, Some, None, Option, slice_index_or}
 use Rattle.geometry.specs.declared.facet.extent.Span.{Span}
 use Rattle.algebra.specs.Parity.{◌⊻◌}
 use Rattle.geometry.specs.declared.facet.Facet.{Facet}
@@ -10,6 +10,11 @@ use Rattle.geometry.specs.Read.{half, triangle_of}
 -- each cell of the row (y, z) is told solid exactly where its centre is inside by the count of crossings
 abbrev pub RowOf : List Facet → ℕ → ℕ → List Bool → Type 0
 RowOf fs y z cells = (x : ℕ) → x < length cells → slice_index_or cells x false ≡ inside (centre half (cell_at x y z)) (map triangle_of fs)
+
+-- the first m rows of a box of n cells a side, one after another, as far as there is place for them: each cell is told solid as above,
+-- and the row of the number k is that with y = k % n and z = k / n
+abbrev pub RowsOf : List Facet → ℕ → ℕ → List Bool → Type 0
+RowsOf fs n m cells = (k : ℕ) → k < m → k * n + n ≤ length cells → RowOf fs (k % n) (k / n) (take n (drop (k * n) cells))
 
 -- ---- runs
 

@@ -10,6 +10,10 @@ ghost use Rattle.rows.specs.Runs.{LongestRuns, runs_left, told_runs};
 
 use geometry::{Facet, Row, Span};
 
+pub mod boxes;
+
+pub use boxes::solid_rows;
+
 /// Changes the cell at a place, if there is one.
 fn change(cells: &mut [bool], place: usize)
     ensures { (x : ℕ) → x < length cells.old → slice_index_or cells.new x false ≡ (slice_index_or cells.old x false ⊻ nat_eq place x) }

@@ -1,0 +1,18 @@
+use Rattle.std.proofs.Common.{◌+◌, List, Bool, sym, ◌∙◌, subst, arith}
+use Rattle.std.proofs.lemmas.Grind.{common_steps}
+use Rattle.rows.specs.Rows.{RowsOf}
+use Rattle.rows.proofs.BoxLaws.{rows_more, rows_full}
+use Rattle.rows.proofs.boxes.solid_rows.Goals as goal
+use Rattle.rows.proofs.boxes.solid_rows.Goals.{then-start-n, else-start-n}
+
+pub loop-number-preserved : goal.loop-number-preserved
+loop-number-preserved c =
+    let fs = c.args.facets.now in
+    let n = c.args.side in
+    let m = c.loop-number.number in
+    elim c.if-start-n.branch [
+      | then-start-n w ↦ subst (λ (cells : List Bool). RowsOf fs n (m + 1) cells) (sym w.cells-is)
+          (rows_more fs n m c.loop-number.cells w.solid_row.new.cells w.if-start-n.true (w.solid_row.auto.cells ∙ grind (arith, common_steps)) c.loop-number.invariant w.solid_row.ensures)
+      | else-start-n w ↦ subst (λ (cells : List Bool). RowsOf fs n (m + 1) cells) (sym w.cells-is)
+          (rows_full fs n m c.loop-number.cells w.if-start-n.false c.loop-number.invariant)
+    ]

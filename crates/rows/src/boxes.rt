@@ -1,0 +1,25 @@
+//! The rows of a whole box.
+
+ghost use Rattle.std.specs.Prelude.{◌*◌};
+ghost use Rattle.rows.specs.Rows.{RowsOf};
+
+use crate::solid_row;
+use geometry::{Facet, Row};
+
+/// Tells of each cell of a box with so many cells a side whether the triangles make it solid. The rows stand one after another, those with
+/// the same z together; a row for which there is no place is left out.
+pub fn solid_rows(facets: &[Facet], side: u8, cells: &mut [bool])
+    ensures { RowsOf facets.now side (side * side) cells.new }
+{
+    let n = side as usize;
+    for number in 0..n * n {
+        let start = number * n;
+        if start + n <= cells.len() {
+            let row = Row {
+                y: (number % n) as u8,
+                z: (number / n) as u8,
+            };
+            solid_row(facets, row, &mut cells[start..start + n]);
+        }
+    }
+}
