@@ -133,7 +133,11 @@ impl<'a> Words<'a> {
         let second = self.next()?;
         let third = self.next()?;
         match self.next() {
-            None => Some(Triple { first, second, third }),
+            None => Some(Triple {
+                first,
+                second,
+                third,
+            }),
             Some(_) => None,
         }
     }

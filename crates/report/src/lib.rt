@@ -9,7 +9,7 @@ use geometry::{Face, Facet, Point};
 use pattern::Reader;
 use refusals::{BoxSide, Refusal};
 use rows::runs;
-use shapes::{FaceList, Shape};
+use shapes::FaceList;
 use std::alloc::{AllocError, Global};
 use verdict::{NotKept, judge};
 
@@ -19,13 +19,16 @@ pub mod verdict;
 /// The most bytes that a text may have.
 pub const MOST_BYTES: usize = 16_384;
 
+/// The largest side that is taken.
+const MOST_SIDE: usize = 32;
+
 /// How many points, and how many faces, a part may have.
 const TRAY: usize = 256;
 
 /// Why a report ends before its text does.
 #[derive(Debug, Drop)]
 enum Stop {
-    /// The text is too long, or the side of its box is over 32.
+    /// The text is too long, or the side of its box is too large.
     TooBig,
     /// The text is refused.
     Refused(Refusal),
@@ -50,7 +53,7 @@ pub fn report(heap: Global, text: &[u8]) -> Result<String, AllocError>
     ensures { IfOk result (λ s. 16384 < length text.now → string_bytes s ≡ codes "too big\n") }
 {
     let mut out = String::new(heap);
-    match report_text(heap, text, &mut out) {
+    match report_text(text, &mut out) {
         Ok(()) => {}
         Err(Stop::TooBig) => out.push_str("too big\n")?,
         Err(Stop::Refused(why)) => {
@@ -62,7 +65,7 @@ pub fn report(heap: Global, text: &[u8]) -> Result<String, AllocError>
 }
 
 /// The side of the box, a line for each part, and the solid cells; also those of the parts before a refusal.
-fn report_text(heap: Global, text: &[u8], out: &mut String) -> Result<(), Stop>
+fn report_text(text: &[u8], out: &mut String) -> Result<(), Stop>
     ensures { 16384 < length text.now → (result ≡ Err TooBig) × (out.new ≡ out.old) }
 {
     if text.len() > MOST_BYTES {
@@ -70,11 +73,11 @@ fn report_text(heap: Global, text: &[u8], out: &mut String) -> Result<(), Stop>
     }
     let mut reader = Reader::new(text);
     let side = reader.side()?;
-    if side == BoxSide::SixtyFour {
+    if side.cells() > MOST_SIDE {
         return Err(Stop::TooBig);
     }
     writeln!(out, "side {}", side.cells())?;
-    let mut kept = Vec::new(heap);
+    let mut kept = Vec::new(*out.allocator());
     let read = report_parts(&mut reader, &mut kept, out);
     report_runs(kept.as_slice(), side, out)?;
     read
@@ -105,9 +108,13 @@ fn report_part(
     kept: &mut Vec<Facet>,
     out: &mut String,
 ) -> Result<(), AllocError> {
-    let heap = *out.allocator();
-    write!(out, "part {number}: {} points, {} faces, ", part.points.len(), part.faces.len())?;
-    match judge(heap, &part, kept) {
+    write!(
+        out,
+        "part {number}: {} points, {} faces, ",
+        part.points.len(),
+        part.faces.len()
+    )?;
+    match judge(*out.allocator(), &part, kept) {
         Ok(()) => writeln!(out, "closed"),
         Err(NotKept::Flawed(flaw)) => writeln!(out, "{flaw}"),
         Err(NotKept::OutOfMemory(why)) => Err(why),

@@ -44,6 +44,17 @@ pub enum NotKept {
     OutOfMemory(AllocError),
 }
 
+impl fmt::Display for NotKept {
+    fn fmt<W: fmt::Write>(&self, f: &mut fmt::Formatter<W>) -> fmt::Result {
+        match self {
+            NotKept::Flawed(flaw) => write!(f, "{flaw}"),
+            NotKept::OutOfMemory(why) => write!(f, "{why}"),
+        }
+    }
+}
+
+impl Error for NotKept {}
+
 impl From<Flaw> for NotKept {
     ghost from_gives = { λ flaw e. e ≡ Flawed flaw };
 

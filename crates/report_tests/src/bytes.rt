@@ -1,9 +1,7 @@
 //! Only the space splits words and only the line feed ends a line; any other byte belongs to a word.
 
-use crate::expect::gives;
+use crate::expect::{TAKEN, gives};
 use std::test::Fail;
-
-const TAKEN: &str = "side 2\nsolid 0\n";
 
 #[test]
 fn spaces_may_be_many_and_may_lead_or_trail(rt: HostRuntime) -> Result<(), Fail> {

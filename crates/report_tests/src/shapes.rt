@@ -1,6 +1,6 @@
 //! Tetrahedra: the cells that they make solid, and what is laid before a fault.
 
-use crate::expect::gives;
+use crate::expect::{closed_gives, gives};
 use std::alloc::{AllocError, Global};
 use std::process::Abort;
 use std::test::Fail;
@@ -24,9 +24,7 @@ fn tetrahedron_gives(
     expected: &str,
 ) -> Result<(), Fail> {
     let part = tetrahedron(rt.alloc(), from, to, width)?;
-    let text = format!(in rt.alloc(); "side 2\n{part}")?;
-    let all = format!(in rt.alloc(); "side 2\npart 1: 4 points, 4 faces, closed\n{expected}")?;
-    gives(rt, text.as_bytes(), all.as_str())
+    closed_gives(rt, 2, part.as_str(), "4 points, 4 faces", expected)
 }
 
 #[test]

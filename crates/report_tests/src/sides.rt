@@ -1,9 +1,7 @@
 //! The side line.
 
-use crate::expect::gives;
+use crate::expect::{TAKEN, gives};
 use std::test::Fail;
-
-const TAKEN: &str = "side 2\nsolid 0\n";
 
 #[test]
 fn a_text_that_says_nothing_has_no_side(rt: HostRuntime) -> Result<(), Fail> {

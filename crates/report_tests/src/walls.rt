@@ -1,6 +1,6 @@
 //! Boxes, and walls that lie along a row.
 
-use crate::expect::gives;
+use crate::expect::{closed_gives, gives};
 use std::alloc::{AllocError, Global};
 use std::process::Abort;
 use std::test::Fail;
@@ -12,7 +12,7 @@ fn cuboid(heap: Global, low: [i32; 3], high: [i32; 3]) -> Result<String, AllocEr
     for z in [low[2], high[2]] {
         for y in [low[1], high[1]] {
             for x in [low[0], high[0]] {
-                part.push_str(format!(in heap; "v {x} {y} {z}\n")?.as_str())?;
+                writeln!(part, "v {x} {y} {z}")?;
             }
         }
     }
@@ -31,11 +31,7 @@ fn cuboid_gives(
     expected: &str,
 ) -> Result<(), Fail> {
     let part = cuboid(rt.alloc(), low, high)?;
-    let text = format!(in rt.alloc(); "side {side}\n{part}")?;
-    let all = format!(in rt.alloc();
-        "side {side}\npart 1: 8 points, 12 faces, closed\n{expected}"
-    )?;
-    gives(rt, text.as_bytes(), all.as_str())
+    closed_gives(rt, side, part.as_str(), "8 points, 12 faces", expected)
 }
 
 #[test]

@@ -39,7 +39,12 @@ impl<'a> Reader<'a> {
 
     /// The three numbers of the line of this kind that was just read, where there is room for so many more: 13 where such a line may not
     /// come, then 14 where a word is no number, then 15 where there is no room.
-    fn read_entry(&mut self, kind: Kind, room: usize, words: Triple) -> Result<(i32, i32, i32), Refusal>
+    fn read_entry(
+        &mut self,
+        kind: Kind,
+        room: usize,
+        words: Triple,
+    ) -> Result<(i32, i32, i32), Refusal>
         requires { AllTold words }
         ensures { EntryRead self.old self.new kind room words.entry result }
     {
@@ -47,9 +52,11 @@ impl<'a> Reader<'a> {
         self.state
             .step(kind)
             .map_err(|_| Refusal::StrayLine { line })?;
-        let (Some(x), Some(y), Some(z)) =
-            (words.first.number(), words.second.number(), words.third.number())
-        else {
+        let (Some(x), Some(y), Some(z)) = (
+            words.first.number(),
+            words.second.number(),
+            words.third.number(),
+        ) else {
             return Err(Refusal::BadNumber { line });
         };
         if room == 0 {

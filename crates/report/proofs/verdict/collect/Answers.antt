@@ -34,7 +34,7 @@ returns-in_err-push g c =
     no_memory (OutOfMemory why) h = tt
 
 pub loop-i-preserved : goal.loop-i-preserved
-loop-i-preserved g c = 
+loop-i-preserved g c =
     let es = g.S.Shape.entries c.args.shape.now in
     subst (λ (xs : List Facet). Named (take (c.loop-i.i + 1) es) (map triangle_of xs)) (sym c.in_ok-push.ensures.items)
     (named_more es c.loop-i.i (omega arith) (vec_items c.loop-i.facets) c.in_ok-triangle.triangle c.in_ok-facet.facet

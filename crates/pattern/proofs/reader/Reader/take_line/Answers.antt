@@ -15,7 +15,7 @@ returns c =
     let some : bs ≡ [] → ⊥ = λ e. eqb-false (length bs) 0 (sym c.if-is_empty.ensures) (ap length e) in
     let end = c.count_before-end.ensures.place in
     let rest : c.behind_first-self.result.now ≡ drop 1 (from 10 bs) =
-        c.behind_first-self.ensures ∙ ap (drop 1) (c.split_at.ensures.back ∙ ap (λ n. drop n bs) end ∙ from_is 10 bs) in
+    c.behind_first-self.ensures ∙ ap (drop 1) (c.split_at.ensures.back ∙ ap (λ n. drop n bs) end ∙ from_is 10 bs) in
     record {
       text = first_line bs some
           ∙ ap (λ w. w ∷ lines (drop 1 (from 10 bs))) (sym (c.split_at.ensures.front ∙ ap (λ n. take n bs) end ∙ before_is 10 bs))
