@@ -1,5 +1,5 @@
 -- Tests and the facts that they tell.
-use Rattle.std.proofs.Common.{◌≡◌, Bool, true, false, not, ◌&&◌, ◌||◌, ◌⊎◌, ℤ, pos, ◌-ℤ◌, ◌≤ℤ◌, ◌<ℤ◌, sym, refl, ap, ◌∙◌, inl, inr, arith}
+use Rattle.std.proofs.Common.{◌≡◌, Bool, true, false, not, ◌&&◌, ℤ, pos, ◌-ℤ◌, ◌≤ℤ◌, ◌<ℤ◌, sym, refl, ap, ◌∙◌, arith}
 use mathlib.Core.Bool.{false≢true}
 use Rattle.std.proofs.lemmas.Int.{ints, by_lt_z}
 use lib.Signed.{lt_z, le_z}
@@ -26,17 +26,6 @@ lt_is_not_le a b = by_lt_z a b (λ h. grind (arith, ints)) (λ h. grind (arith, 
 pub le_less : (a b : ℤ) → le_z a b ≡ le_z (a -ℤ b) (pos 0)
 le_less a b = by_lt_z b a (λ h. grind (arith, ints)) (λ h. grind (arith, ints))
 
-pub or_left : {a : Bool} (b : Bool) → a ≡ true → (a || b) ≡ true
-or_left b e = ap (λ x. x || b) e
-
-pub or_right : (a : Bool) {b : Bool} → b ≡ true → (a || b) ≡ true
-or_right true e = refl
-or_right false e = e
-
-pub or_cases : (a b : Bool) → (a || b) ≡ true → (a ≡ true) ⊎ (b ≡ true)
-or_cases true b e = inl refl
-or_cases false b e = inr e
-
 pub both : {a b : Bool} → a ≡ true → b ≡ true → (a && b) ≡ true
 both e f = cc
 
@@ -55,7 +44,3 @@ pub same_test : (a b : Bool) → (a ≡ true → b ≡ true) → (b ≡ true →
 same_test true b f g = sym (f refl)
 same_test false true f g = g refl
 same_test false false f g = refl
-
-pub never : (a : Bool) → (a ≡ true → ⊥) → a ≡ false
-never true h = absurd (h refl)
-never false h = refl

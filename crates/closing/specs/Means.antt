@@ -1,6 +1,5 @@
 -- What each answer of the check means.
 use Rattle.std.specs.Prelude.{◌≡◌, ℕ, ◌*◌, ◌<◌, ◌≤◌, true, List, length, Ok, Err, Result}
-use Rattle.geometry.specs.declared.mesh.Side.{Side}
 use Rattle.geometry.specs.declared.mesh.Triangle.{Triangle}
 use Rattle.geometry.specs.Closed as sides
 use Rattle.closing.specs.declared.check.Leak.{Leak}

@@ -69,6 +69,9 @@ impl<'a> Dense<'a> {
         Ok(())
     }
 
+    // A mark and a flip have the same steps. They stay apart: a step is a line, and what it does to the drawing (`marked`, `turned`) is said
+    // of each; one function for both would take the operation and both definitions as parameters.
+
     /// Whether the drawing fits with cell `k` marked.
     #[tactic(auto, using(crate::proofs::ShownLaws::fits_marked))]
     fn takes_mark(&self, k: usize) -> bool

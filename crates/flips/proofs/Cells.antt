@@ -1,37 +1,38 @@
 -- Cell by cell: the flips of a source change the cells that it makes solid, and no others.
-use Rattle.std.proofs.Common.{◌≡◌, ℕ, zero, suc, ◌+◌, ◌<◌, ◌≤◌, Bool, true, false, cond, not, ◌&&◌, eqb, ltb, leb, List, [], ◌∷◌, ◌++◌, map, sym, refl, ap, ◌∙◌, ⊎_elim, arith}
+use Rattle.std.proofs.Common.{◌≡◌, ℕ, zero, suc, ◌+◌, ◌<◌, ◌≤◌, Bool, true, false, cond, not, ◌&&◌, eqb, ltb, leb, List, [], ◌∷◌, map, sym, refl, ap, ◌∙◌, ⊎_elim, arith}
 use Rattle.std.specs.List.{range_with_len, flat_map}
 use Rattle.std.proofs.lemmas.Bool.{and_left, and_right, cases_eq, cases_lt, ne_eqb}
 use Rattle.std.proofs.lemmas.Bool.Decides.{nat_tests}
+use Rattle.std.proofs.lemmas.List.Elements.{All-nil, All-head, All-tail, All-append}
 use Rattle.algebra.specs.Parity.{◌⊻◌}
 use Rattle.algebra.proofs.Parity.{xor_assoc, xor_false, xor_same}
-use Rattle.block.specs.Drawing.{in_row, number}
+use Rattle.block.specs.Drawing.{changed, in_row, number}
 use Rattle.block.proofs.Numbers.{in_box_true, in_row_true}
 use Rattle.block.proofs.Rows.{turned_row}
 use Rattle.rows.specs.Rows.{odd}
-use Rattle.rows.specs.declared.Run.{Run}
+use Rattle.geometry.specs.declared.facet.extent.Span.{Span}
+use Rattle.block.specs.declared.cells.Run.{Run}
 use Rattle.rows.proofs.Odd.{odd_append, odd_none}
-use Rattle.flips.specs.declared.list.Flip.{Flip}
 use Rattle.flips.specs.Flips.{flip_at, row_runs, row_flips, flips_of}
-use Rattle.flips.specs.Drawn.{flipped, drawn, ChangedWhere, InBox}
-use Rattle.flips.proofs.Runs.{Chain, runs_chain}
+use Rattle.flips.specs.Drawn.{drawn, ChangedWhere, InBox}
+use Rattle.rows.proofs.RunLaws.{Chain, runs_chain}
 use Rattle.flips.proofs.Rows.{joined_push, row_in_box}
 
 -- the cell at x is in the run
-abbrev has : ℕ → Run → Bool
+abbrev has : ℕ → Span → Bool
 has x r = leb r.start x && ltb x r.end
 
 -- the flip changes the cell (x, y, z)
-abbrev hits : ℕ → ℕ → ℕ → Flip → Bool
-hits x y z f = eqb y f.row.y && (eqb z f.row.z && has x f.run)
+abbrev hits : ℕ → ℕ → ℕ → Run → Bool
+hits x y z w = eqb y w.y && (eqb z w.z && (leb w.start x && ltb x w.end))
 
 -- ---- a cell is changed where an odd number of flips change it
 
 module _ (n x y z : ℕ) (hx : x < n) (hy : y < n) where
-  flipped_is : (d : ℕ → Bool) (f : Flip) → in_row n f.row.y f.row.z f.run.start f.run.end ≡ true → flipped n d f (number n x y z) ≡ (d (number n x y z) ⊻ hits x y z f)
-  flipped_is d f w =
-      let p = in_row_true n f.row.y f.row.z f.run.start f.run.end w in
-      turned_row n f.run.start f.run.end f.row.y f.row.z x y z p.3 p.0 hx hy d ∙ by (d (number n x y z)) (hits x y z f)
+  changed_is : (d : ℕ → Bool) (w : Run) → in_row n w ≡ true → changed n d w (number n x y z) ≡ (d (number n x y z) ⊻ hits x y z w)
+  changed_is d w h =
+      let p = in_row_true n w h in
+      turned_row n w.start w.end w.y w.z x y z p.3 p.0 hx hy d ∙ by (d (number n x y z)) (hits x y z w)
     where
       by : (v b : Bool) → cond b (not v) v ≡ (v ⊻ b)
       by true true = refl
@@ -39,22 +40,23 @@ module _ (n x y z : ℕ) (hx : x < n) (hy : y < n) where
       by false true = refl
       by false false = refl
 
-  drawn_odd : (d : ℕ → Bool) (fs : List Flip) → InBox n fs → drawn n d fs (number n x y z) ≡ (d (number n x y z) ⊻ odd (hits x y z) fs)
-  drawn_odd d [] w = sym (xor_false (d (number n x y z)))
-  drawn_odd d (f ∷ fs) w =
-      drawn_odd (flipped n d f) fs w.1 ∙ ap (λ b. b ⊻ odd (hits x y z) fs) (flipped_is d f w.0) ∙ xor_assoc (d (number n x y z)) (hits x y z f) (odd (hits x y z) fs)
+  drawn_odd : (d : ℕ → Bool) (ws : List Run) → InBox n ws → drawn n d ws (number n x y z) ≡ (d (number n x y z) ⊻ odd (hits x y z) ws)
+  drawn_odd d [] h = sym (xor_false (d (number n x y z)))
+  drawn_odd d (w ∷ ws) h =
+      drawn_odd (changed n d w) ws (All-tail (λ v. in_row n v ≡ true) w ws h)
+      ∙ ap (λ b. b ⊻ odd (hits x y z) ws) (changed_is d w (All-head (λ v. in_row n v ≡ true) w ws h)) ∙ xor_assoc (d (number n x y z)) (hits x y z w) (odd (hits x y z) ws)
 
 -- ---- the runs of a row have its solid cells, each once
 
 module _ (n : ℕ) (p : ℕ → Bool) (x : ℕ) where
-  has_none : (from : ℕ) (rs : List Run) → Chain n p from rs → x < from → odd (has x) rs ≡ false
+  has_none : (from : ℕ) (rs : List Span) → Chain n p from rs → x < from → odd (has x) rs ≡ false
   has_none from [] h l = refl
   has_none from (r ∷ rs) h l = xor_same (off h.0.after) (has_none r.end rs h.1 (omega (arith, h.0.after, h.0.some)))
     where
       off : from ≤ r.start → has x r ≡ false
       off a = grind (arith, nat_tests)
 
-  has_odd : (from : ℕ) (rs : List Run) → Chain n p from rs → from ≤ x → x < n → odd (has x) rs ≡ p x
+  has_odd : (from : ℕ) (rs : List Span) → Chain n p from rs → from ≤ x → x < n → odd (has x) rs ≡ p x
   has_odd from [] h a l = sym (h x a l)
   has_odd from (r ∷ rs) h a l =
       ⊎_elim
@@ -95,13 +97,10 @@ module _ {X : Type 0} (q : X → Bool) (f : ℕ → List X) where
       (λ (ne : k ≡ j → ⊥). xor_same (joined_one j k (omega arith) (λ t m. h t (omega arith))) (h k (omega arith) ne) ∙ xor_false (odd q (f j)))
       (cases_eq k j)
 
-in_box_append : (n : ℕ) (fs gs : List Flip) → InBox n fs → InBox n gs → InBox n (fs ++ gs)
-in_box_append n [] gs v w = w
-in_box_append n (f ∷ fs) gs v w = (v.0, in_box_append n fs gs v.1 w)
-
-in_box_joined : (n a : ℕ) (f : ℕ → List Flip) (k : ℕ) → ((t : ℕ) → t < a + k → InBox n (f t)) → InBox n (flat_map f (range_with_len a k))
-in_box_joined n a f zero h = tt
-in_box_joined n a f (suc k) h = in_box_append n (f a) _ (h a (omega arith)) (in_box_joined n (a + 1) f k (λ t l. h t (omega arith)))
+in_box_joined : (n a : ℕ) (f : ℕ → List Run) (k : ℕ) → ((t : ℕ) → t < a + k → InBox n (f t)) → InBox n (flat_map f (range_with_len a k))
+in_box_joined n a f zero h = All-nil (λ w. in_row n w ≡ true)
+in_box_joined n a f (suc k) h =
+    All-append (λ w. in_row n w ≡ true) (f a) (flat_map f (range_with_len (a + 1) k)) (h a (omega arith)) (in_box_joined n (a + 1) f k (λ t l. h t (omega arith)))
 
 module _ (n : ℕ) (solid : ℕ → ℕ → ℕ → Bool) where
   flips_in_box : InBox n (flips_of n solid)

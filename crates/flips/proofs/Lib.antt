@@ -1,4 +1,5 @@
+pub mod Kept
 pub mod Made
 pub mod Rows
-pub mod Cells
 pub mod RowSteps
+pub mod Cells

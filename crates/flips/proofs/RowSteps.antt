@@ -1,19 +1,15 @@
 -- One row more, and one row back.
-use Rattle.std.proofs.Common.{◌≡◌, ℕ, zero, suc, ◌+◌, ◌-◌, ◌*◌, ◌/◌, ◌%◌, ◌<◌, ◌≤◌, Bool, true, false, ◌&&◌, List, length, take, Ok, Err, sym, refl, ap, ◌∙◌, subst, ⊎_elim, add-zero, arith}
+use Rattle.std.proofs.Common.{◌≡◌, ℕ, zero, suc, ◌+◌, ◌-◌, ◌*◌, ◌/◌, ◌%◌, ◌<◌, ◌≤◌, Bool, true, false, ◌&&◌, List, length, Ok, Err, sym, refl, ap, ◌∙◌, subst, ⊎_elim, add-zero, arith}
 use Rattle.std.proofs.lemmas.List.{length-append}
 use Rattle.std.proofs.lemmas.Bool.{cond-true, cond-false, cases_Bool, both_ways, and_parts, and_from, and_right}
-use Rattle.flips.specs.declared.list.Flip.{Flip}
+use Rattle.refusals.specs.declared.Refusal.TheVariants.{NoSand}
+use Rattle.block.specs.declared.cells.Run.{Run}
 use Rattle.flips.specs.Flips.{flips_of, first_rows}
-use Rattle.flips.specs.Drawn.{drawn, all_fit, InBox, ChangedWhere, RowsMade}
+use Rattle.flips.specs.Drawn.{drawn, all_fit, flips_answer, InBox}
 use Rattle.flips.proofs.Made.{drawn_append, all_fit_append, fits_end, fit_moved}
-use Rattle.flips.proofs.Cells.{flips_change}
 use Rattle.flips.proofs.Rows.{row_in_box, row_y, row_z, numbered, rows_all, rows_more}
 
--- the flips of the row of the number i, as the code takes them: the first k, in a box of m cells a side, which is n
-pub row_cut : (n : ℕ) (solid : ℕ → ℕ → ℕ → Bool) (i m k : ℕ) (fs : List Flip) → m ≡ n → take k fs ≡ numbered m solid i → take (k - 0) fs ≡ numbered n solid i
-row_cut n solid i m k fs side cut = let s : k - 0 ≡ k = omega arith in ap (λ j. take j fs) s ∙ cut ∙ ap (λ j. numbered j solid i) side
-
-module _ (n : ℕ) (solid : ℕ → ℕ → ℕ → Bool) (i : ℕ) (fs : List Flip) (cut : fs ≡ numbered n solid i) where
+module _ (n : ℕ) (solid : ℕ → ℕ → ℕ → Bool) (i : ℕ) (fs : List Run) (cut : fs ≡ numbered n solid i) where
   -- the flips of a row lie in the box
   pub cut_in_box : {m : ℕ} → m ≡ n → i < n * n → InBox m fs
   cut_in_box side h =
@@ -40,7 +36,7 @@ module _ (n : ℕ) (solid : ℕ → ℕ → ℕ → Bool) (F : (ℕ → Bool) �
       fewer zero h = ap fit (sym (add-zero i)) ∙ h
       fewer (suc more) h = let e : i + more + 1 ≡ i + suc more = omega arith in fewer more (and_parts _ _ (sym (fit_more (i + more)) ∙ ap fit e ∙ h)).0
 
-  module _ (i : ℕ) (fs : List Flip) (cut : fs ≡ numbered n solid i) {m : ℕ} {G : (ℕ → Bool) → Bool} (side : m ≡ n) (fits : G ≡ F) where
+  module _ (i : ℕ) (fs : List Run) (cut : fs ≡ numbered n solid i) {m : ℕ} {G : (ℕ → Bool) → Bool} (side : m ≡ n) (fits : G ≡ F) where
     fit_here : (e : ℕ → Bool) → e ≡ after i → all_fit m G e fs ≡ all_fit n F (after i) (numbered n solid i)
     fit_here e now = fit_moved e fs side fits ∙ ap (λ (k : ℕ → Bool). all_fit n F k fs) now ∙ ap (all_fit n F (after i)) cut
 
@@ -71,15 +67,14 @@ module _ (n : ℕ) (solid : ℕ → ℕ → ℕ → Bool) (F : (ℕ → Bool) �
   -- ---- the whole box
 
   -- all rows are made
-  pub all_made : (i count : ℕ) (e : ℕ → Bool) → i ≡ n * n → e ≡ after i → fit i ≡ true → count ≡ length (first_rows n solid i) → RowsMade n F solid d e (Ok count)
+  pub all_made : (i count : ℕ) (e : ℕ → Bool) → i ≡ n * n → e ≡ after i → fit i ≡ true → count ≡ length (first_rows n solid i)
+      → (Ok count ≡ flips_answer n F d (flips_of n solid)) × (e ≡ drawn n d (flips_of n solid))
   all_made i count e all now fits long =
-      let at : first_rows n solid i ≡ flips_of n solid = ap (first_rows n solid) all ∙ rows_all n solid in
-      let made : e ≡ drawn n d (flips_of n solid) = now ∙ ap (drawn n d) at in (
+      let at : first_rows n solid i ≡ flips_of n solid = ap (first_rows n solid) all ∙ rows_all n solid in (
         ap Ok (long ∙ ap length at) ∙ sym (cond-true (all_fit n F d (flips_of n solid)) _ _ (ap (all_fit n F d) (sym at) ∙ fits)),
-        made,
-        subst (ChangedWhere n solid d) (sym made) (flips_change n solid d),
+        now ∙ ap (drawn n d) at,
       )
 
   -- some row is refused
-  pub none_made : (i : ℕ) (e : ℕ → Bool) → all_fit n F d (flips_of n solid) ≡ false → RowsMade n F solid d e (Err i)
-  none_made i e broken = sym (cond-false (all_fit n F d (flips_of n solid)) _ _ broken)
+  pub none_made : all_fit n F d (flips_of n solid) ≡ false → Err NoSand ≡ flips_answer n F d (flips_of n solid)
+  none_made broken = sym (cond-false (all_fit n F d (flips_of n solid)) _ _ broken)

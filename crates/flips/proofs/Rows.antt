@@ -3,19 +3,20 @@ use Rattle.std.proofs.Common.{◌≡◌, ℕ, zero, suc, ◌+◌, ◌*◌, ◌/�
 use lib.Arith.{digits_div, digits_mod}
 use Rattle.std.specs.List.{range_with_len, flat_map}
 use Rattle.std.proofs.lemmas.Bool.Decides.{nat_tests}
+use Rattle.std.proofs.lemmas.List.Elements.{All-nil, All-cons}
 use Rattle.block.specs.Drawing.{in_row}
 use Rattle.geometry.specs.declared.mesh.Row.{Row}
-use Rattle.rows.specs.declared.Run.{Run}
-use Rattle.flips.specs.declared.list.Flip.{Flip}
-use Rattle.flips.specs.Runs.{runs, told_runs}
+use Rattle.geometry.specs.declared.facet.extent.Span.{Span}
+use Rattle.block.specs.declared.cells.Run.{Run}
+use Rattle.rows.specs.Runs.{runs, told_runs}
+use Rattle.rows.proofs.RunLaws.{Chain, runs_same, runs_chain}
 use Rattle.flips.specs.Flips.{flip_at, row_runs, row_flips, flips_of, first_rows}
 use Rattle.flips.specs.Drawn.{InBox}
-use Rattle.flips.proofs.Runs.{Chain, runs_same, runs_chain}
 
 -- ---- one row
 
 -- the flips of the row of the number i, as they are cut from its cells
-pub row_told : (solid : ℕ → ℕ → ℕ → Bool) (n i : ℕ) (row : Row) (cells : List Bool) (fs : List Flip) → row.y ≡ i % n → row.z ≡ i / n → length cells ≡ n
+pub row_told : (solid : ℕ → ℕ → ℕ → Bool) (n i : ℕ) (row : Row) (cells : List Bool) (fs : List Run) → row.y ≡ i % n → row.z ≡ i / n → length cells ≡ n
     → ((x : ℕ) → x < n → get_or cells x false ≡ solid x row.y row.z) → fs ≡ map (flip_at row.y row.z) (told_runs cells) → fs ≡ row_flips n solid (i % n) (i / n)
 unfolding row_flips
 row_told solid n i row cells fs y z long told cut =
@@ -25,11 +26,12 @@ row_told solid n i row cells fs y z long told cut =
     ∙ ap₂ (row_flips n solid) y z
 
 -- they lie in the box
-runs_in_box : (n y z : ℕ) (p : ℕ → Bool) (from : ℕ) (rs : List Run) → y < n → z < n → Chain n p from rs → InBox n (map (flip_at y z) rs)
-runs_in_box n y z p from [] hy hz h = tt
-runs_in_box n y z p from (r ∷ rs) hy hz h = (inside h.0.some h.0.within, runs_in_box n y z p r.end rs hy hz h.1)
+runs_in_box : (n y z : ℕ) (p : ℕ → Bool) (from : ℕ) (rs : List Span) → y < n → z < n → Chain n p from rs → InBox n (map (flip_at y z) rs)
+runs_in_box n y z p from [] hy hz h = All-nil (λ w. in_row n w ≡ true)
+runs_in_box n y z p from (r ∷ rs) hy hz h =
+    All-cons (λ w. in_row n w ≡ true) (flip_at y z r) (map (flip_at y z) rs) (inside h.0.some h.0.within) (runs_in_box n y z p r.end rs hy hz h.1)
   where
-    inside : r.start < r.end → r.end ≤ n → in_row n y z r.start r.end ≡ true
+    inside : r.start < r.end → r.end ≤ n → in_row n (flip_at y z r) ≡ true
     inside a b = grind (arith, nat_tests)
 
 pub row_in_box : (solid : ℕ → ℕ → ℕ → Bool) (n y z : ℕ) → y < n → z < n → InBox n (row_flips n solid y z)
@@ -72,7 +74,7 @@ row_z n i h = ⊎_elim (λ e. let z : n * n ≡ 0 = ap (λ (k : ℕ). k * n) e �
 
 module _ (n : ℕ) (solid : ℕ → ℕ → ℕ → Bool) where
   -- the flips of the row of the number i
-  abbrev pub numbered : ℕ → List Flip
+  abbrev pub numbered : ℕ → List Run
   numbered i = row_flips n solid (i % n) (i / n)
 
   layer : (w : ℕ) → flat_map (λ t. numbered (n * w + t)) (range_with_len 0 n) ≡ flat_map (λ y. row_flips n solid y w) (range_with_len 0 n)
@@ -84,7 +86,7 @@ module _ (n : ℕ) (solid : ℕ → ℕ → ℕ → Bool) where
   layers zero = ap (λ k. flat_map numbered (range_with_len 0 k)) (mul-zero n)
   layers (suc w) =
       let e : n * suc w ≡ n * w + n = ap (λ k. n * k) (sym (add-one w)) ∙ mul-add n w 1 ∙ ap (λ k. n * w + k) (mul-one n) in
-      ap (λ k. flat_map numbered (range_with_len 0 k)) e ∙ joined_split numbered (n * w) n ∙ ap₂ (λ (a b : List Flip). a ++ b) (layers w) (layer w)
+      ap (λ k. flat_map numbered (range_with_len 0 k)) e ∙ joined_split numbered (n * w) n ∙ ap₂ (λ (a b : List Run). a ++ b) (layers w) (layer w)
       ∙ sym (joined_push (λ z. flat_map (λ y. row_flips n solid y z) (range_with_len 0 n)) w)
 
   -- all rows by number are the rows by z and then y

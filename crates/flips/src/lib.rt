@@ -2,11 +2,12 @@
 #![tactic(auto)]
 
 ghost use Rattle.std.specs.Prelude.{◌≡◌, ℕ, ◌*◌, ◌<◌, ◌≤◌, Bool, true, false, length, is_ok, if◌then◌else◌, slice_index_or};
-ghost use Rattle.flips.specs.Runs.{LongestRuns};
+ghost use Rattle.block.specs.Keeps.{Keeps};
+ghost use Rattle.rows.specs.Runs.{LongestRuns};
 ghost use Rattle.flips.specs.Flips.{row_runs, flips_of, first_rows};
-ghost use Rattle.flips.specs.Drawn.{drawn, all_fit, flips_answer, ChangedWhere, RowsMade, RowsStand};
+ghost use Rattle.flips.specs.Drawn.{drawn, all_fit, flips_answer, ChangedWhere};
 
-use crate::list::{NO_FLIPS, make_flips, undo_flips};
+use crate::list::{make_flips, undo_flips};
 use crate::row::{row_count, row_flips};
 use block::Block;
 use geometry::Row;
@@ -29,42 +30,14 @@ pub trait RowSource {
 fn undo_rows<B: Block, S: RowSource>(block: &mut B, source: &S, count: usize)
     requires sound { B.sound block.old }
     requires within { count ≤ B.edge block.old * B.edge block.old }
-    ensures kept { B.sound block.new }
-    ensures same_loans { B.ties block.old block.new }
-    ensures same_side { B.edge block.new ≡ B.edge block.old }
-    ensures same_fits { B.fits block.new ≡ B.fits block.old }
+    ensures kept { Keeps B.sound B.ties B.edge B.fits block.old block.new }
     ensures back { (d : ℕ → Bool) → B.fits block.old d ≡ true → all_fit (B.edge block.old) (B.fits block.old) d (first_rows (B.edge block.old) (S.solid source.now) count) ≡ true → B.drawing block.old ≡ drawn (B.edge block.old) d (first_rows (B.edge block.old) (S.solid source.now) count) → B.drawing block.new ≡ d }
 {
     let side = block.side();
     for i in (0..count).rev() {
-        let mut flips = NO_FLIPS;
-        let k = row_flips(source, side, i, &mut flips);
-        undo_flips(block, &flips[0..k]);
+        let flips = row_flips(source, side, i);
+        undo_flips(block, flips.as_slice());
     }
-}
-
-/// Makes the flips of the rows in order, and answers how many flips they are. Where a drawing on the way does not fit, the answer is how
-/// many rows were made before.
-fn make_rows<B: Block, S: RowSource>(block: &mut B, source: &S) -> Result<usize, usize>
-    requires { B.sound block.old }
-    ensures kept { B.sound block.new }
-    ensures same_loans { B.ties block.old block.new }
-    ensures same_side { B.edge block.new ≡ B.edge block.old }
-    ensures same_fits { B.fits block.new ≡ B.fits block.old }
-    ensures made { RowsMade (B.edge block.old) (B.fits block.old) (S.solid source.now) (B.drawing block.old) (B.drawing block.new) result }
-    ensures stand { RowsStand (B.edge block.new) (B.fits block.new) (S.solid source.now) (B.drawing block.old) (B.drawing block.new) result }
-{
-    let side = block.side();
-    let mut count = 0;
-    for i in 0..row_count(side) {
-        let mut flips = NO_FLIPS;
-        let k = row_flips(source, side, i, &mut flips);
-        if !make_flips(block, &flips[0..k]) {
-            return Err(i);
-        }
-        count += k;
-    }
-    Ok(count)
 }
 
 /// Flips all cells that the source makes solid: by rising z, then y, in each row the longest runs of such cells by rising x. Answers the
@@ -72,20 +45,21 @@ fn make_rows<B: Block, S: RowSource>(block: &mut B, source: &S) -> Result<usize,
 /// drawing is as it was.
 pub fn flip_rows<B: Block, S: RowSource>(block: &mut B, source: &S) -> Result<usize, Refusal>
     requires { B.sound block.old }
-    ensures kept { B.sound block.new }
-    ensures same_loans { B.ties block.old block.new }
-    ensures same_side { B.edge block.new ≡ B.edge block.old }
-    ensures same_fits { B.fits block.new ≡ B.fits block.old }
+    ensures kept { Keeps B.sound B.ties B.edge B.fits block.old block.new }
     ensures answer { result ≡ flips_answer (B.edge block.old) (B.fits block.old) (B.drawing block.old) (flips_of (B.edge block.old) (S.solid source.now)) }
     ensures drawn { B.drawing block.new ≡ (if is_ok result then drawn (B.edge block.old) (B.drawing block.old) (flips_of (B.edge block.old) (S.solid source.now)) else B.drawing block.old) }
     ensures cells { is_ok result ≡ true → ChangedWhere (B.edge block.old) (S.solid source.now) (B.drawing block.old) (B.drawing block.new) }
     ensures longest { (y z : ℕ) → LongestRuns (B.edge block.old) (λ x. S.solid source.now x y z) (row_runs (B.edge block.old) (S.solid source.now) y z) }
 {
-    match make_rows(block, source) {
-        Ok(count) => Ok(count),
-        Err(rows) => {
-            undo_rows(block, source, rows);
-            Err(Refusal::NoSand)
+    let side = block.side();
+    let mut count = 0;
+    for i in 0..row_count(side) {
+        let flips = row_flips(source, side, i);
+        if let Err(why) = make_flips(block, flips.as_slice()) {
+            undo_rows(block, source, i);
+            return Err(why);
         }
+        count += flips.len();
     }
+    Ok(count)
 }

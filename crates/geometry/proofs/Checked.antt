@@ -10,10 +10,6 @@ pub none_is : {A : Type 0} (b : Bool) (p : A) → None ≡ cond b (Some p) None 
 none_is true p e = absurd (none-some p e)
 none_is false p e = refl
 
-pub and_false : (a b : Bool) → b ≡ false → (a && b) ≡ false
-and_false true b e = e
-and_false false b e = refl
-
 -- three parts were made, so all three checks were passed
 pub three_made : {A B : Type 0} (f g h : Bool) (a b c x y z : A) (make : A → A → A → B)
     → Some x ≡ cond f (Some a) None → Some y ≡ cond g (Some b) None → Some z ≡ cond h (Some c) None

@@ -1,12 +1,13 @@
 -- An expression of the first degree is not negative at some corner of a cell exactly if it is not at the corner where it is greatest:
 -- so one corner, picked by signs, decides for all eight.
-use Rattle.std.proofs.Common.{◌≡◌, Bool, true, false, cond, ◌⊎◌, [], ◌∷◌, ℤ, pos, ◌+ℤ◌, ◌-ℤ◌, ◌*ℤ◌, ◌≤ℤ◌, ◌<ℤ◌, sym, refl, ap, ◌∙◌, subst, inl, inr, arith}
+use Rattle.std.proofs.Common.{◌≡◌, Bool, true, false, ◌⊎◌, [], ◌∷◌, ℤ, pos, ◌+ℤ◌, ◌-ℤ◌, ◌*ℤ◌, ◌≤ℤ◌, ◌<ℤ◌, sym, refl, ap, ◌∙◌, subst, inl, inr, arith}
 use mathlib.Core.Path.{fun_ext}
 use Rattle.std.proofs.lemmas.Int.{ints, by_lt_z}
 use lib.Signed.{le_z}
 use Rattle.algebra.proofs.Ring.{var, num, ◌⊕◌, ◌⊖◌, ◌⊗◌, ring}
 use Rattle.algebra.proofs.Order.{mul_le, mul_ge}
-use Rattle.algebra.proofs.Tests.{le_true, le_false, le_of, or_left, or_right, or_cases, same_test}
+use Rattle.std.proofs.lemmas.Bool.{or_left, or_right, or_cases}
+use Rattle.algebra.proofs.Tests.{le_true, le_false, le_of, same_test}
 use Rattle.geometry.specs.declared.mesh.Point.{Point}
 use Rattle.geometry.specs.declared.mesh.Triangle.{Triangle}
 use Rattle.geometry.specs.Geometry.{normal_of, edge, plane}
@@ -14,11 +15,11 @@ use Rattle.geometry.specs.Cells.{low, high, at_end, at_corner, sign, beside_side
 use Rattle.geometry.specs.declared.axis.Axis.{Axis}
 use Rattle.geometry.specs.declared.axis.Axis.TheVariants.{X, Y, Z}
 use Rattle.geometry.specs.Numbers.{◌·◌}
-use Rattle.geometry.specs.Read.{corner_of, first_of, second_of, flat_edge}
+use Rattle.geometry.specs.Read.{corner_of, end_of, first_of, second_of, flat_edge}
 
 -- the end of the cell's span where a times it is greatest
 abbrev pub far_end : ℤ → ℤ → ℤ → ℤ
-far_end a h k = cond (le_z (pos 0) a) (high h k) (low h k)
+far_end a h k = end_of h (le_z (pos 0) a) k
 
 abbrev pub first_degree : ℤ → ℤ → ℤ → ℤ → Point → ℤ
 first_degree a b c d q = a *ℤ q.x +ℤ b *ℤ q.y +ℤ c *ℤ q.z +ℤ d
@@ -40,7 +41,7 @@ module _ (h : ℤ) (h_some : pos 0 ≤ℤ h) where
   far_is : (a k : ℤ) → (far_end a h k ≡ low h k) ⊎ (far_end a h k ≡ high h k)
   far_is a k = by_bool (le_z (pos 0) a)
     where
-      by_bool : (b : Bool) → (cond b (high h k) (low h k) ≡ low h k) ⊎ (cond b (high h k) (low h k) ≡ high h k)
+      by_bool : (b : Bool) → (end_of h b k ≡ low h k) ⊎ (end_of h b k ≡ high h k)
       by_bool true = inr refl
       by_bool false = inl refl
 
@@ -50,8 +51,8 @@ module _ (h : ℤ) (h_some : pos 0 ≤ℤ h) where
   far_most : (a k q : ℤ) → (q ≡ low h k) ⊎ (q ≡ high h k) → (a *ℤ q) ≤ℤ (a *ℤ far_end a h k)
   far_most a k q e =
       by_lt_z a (pos 0)
-      (λ n. subst (λ x. (a *ℤ q) ≤ℤ (a *ℤ x)) (sym (ap (λ b. cond b (high h k) (low h k)) (le_false _ _ n))) (below n e))
-      (λ p. subst (λ x. (a *ℤ q) ≤ℤ (a *ℤ x)) (sym (ap (λ b. cond b (high h k) (low h k)) (le_true _ _ p))) (above p e))
+      (λ n. subst (λ x. (a *ℤ q) ≤ℤ (a *ℤ x)) (sym (ap (λ b. end_of h b k) (le_false _ _ n))) (below n e))
+      (λ p. subst (λ x. (a *ℤ q) ≤ℤ (a *ℤ x)) (sym (ap (λ b. end_of h b k) (le_true _ _ p))) (above p e))
     where
       below : a <ℤ pos 0 → (q ≡ low h k) ⊎ (q ≡ high h k) → (a *ℤ q) ≤ℤ (a *ℤ low h k)
       below n (inl e) = subst (λ x. (a *ℤ x) ≤ℤ (a *ℤ low h k)) (sym e) (same (a *ℤ low h k))
@@ -75,8 +76,8 @@ module _ (h : ℤ) (h_some : pos 0 ≤ℤ h) where
       by_case (inr y) = record { q = high h k; is = inr refl; so = y }
 
   end_at : (k : ℤ) (f : ℤ → Bool) (q : ℤ) → (q ≡ low h k) ⊎ (q ≡ high h k) → f q ≡ true → at_end h k f ≡ true
-  end_at k f q (inl e) y = or_left _ (ap f (sym e) ∙ y)
-  end_at k f q (inr e) y = or_right _ (ap f (sym e) ∙ y)
+  end_at k f q (inl e) y = or_left _ _ (ap f (sym e) ∙ y)
+  end_at k f q (inr e) y = or_right _ _ (ap f (sym e) ∙ y)
 
   module _ (a b c d : ℤ) (k : Point) where
     abbrev value : Point → ℤ

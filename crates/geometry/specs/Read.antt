@@ -38,10 +38,10 @@ second_of Z p = p.y
 unfoldable pub flat_edge : ℤ → ℤ → ℤ → ℤ → ℤ → ℤ → ℤ
 flat_edge ua ub va vb qa qb = (va -ℤ ua) · (qb -ℤ ub) -ℤ (vb -ℤ ub) · (qa -ℤ ua)
 
+-- an end of the span of cell k on an axis, the high one if the flag is set
+abbrev pub end_of : ℤ → Bool → ℤ → ℤ
+end_of h up k = if up then high h k else low h k
+
 -- the corner of the cell k at the high end of the axes whose flag is set
 abbrev pub corner_of : ℤ → Point → Bool → Bool → Bool → Point
-corner_of h k x y z = record {
-  x = if x then high h k.x else low h k.x;
-  y = if y then high h k.y else low h k.y;
-  z = if z then high h k.z else low h k.z;
-}
+corner_of h k x y z = record { x = end_of h x k.x; y = end_of h y k.y; z = end_of h z k.z }

@@ -8,6 +8,7 @@ use crate::bounded::Coordinate;
 /// The difference of two coordinates in range.
 #[derive(Clone, Copy, Debug, PartialEq, Eq)]
 pub(crate) struct Gap {
+    // As wide as the products: with 32 bits the tests of the skins take a tenth longer.
     value: i64,
     ghost small: { unsigned_abs value ≤ 2 ^ 14 },
 }

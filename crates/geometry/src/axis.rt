@@ -4,6 +4,7 @@ use crate::bounded::Coordinate;
 
 pub(crate) mod seen;
 
+/// An axis of the grid.
 #[derive(Clone, Copy, Debug, PartialEq, Eq)]
 pub enum Axis {
     X,

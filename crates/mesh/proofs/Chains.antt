@@ -7,7 +7,7 @@ use Rattle.algebra.specs.Parity.{◌⊻◌}
 use Rattle.algebra.proofs.Ring.{var, ◌⊕◌, ◌⊖◌, ◌⊗◌, ring}
 use Rattle.algebra.proofs.Order.{nonneg_of_pos, mul_nonneg}
 use Rattle.algebra.proofs.Parity.{xor_comm}
-use Rattle.algebra.proofs.Tests.{or_left, or_right, or_cases}
+use Rattle.std.proofs.lemmas.Bool.{or_left, or_right, or_cases}
 use Rattle.geometry.specs.declared.mesh.Point.{Point}
 use Rattle.geometry.specs.declared.mesh.Triangle.{Triangle}
 use Rattle.geometry.specs.Geometry.{inside}
@@ -78,8 +78,8 @@ any_some P f g so [] none = absurd none
 any_some P f g so (t ∷ ts) (inl p) = here (so t p)
   where
     here : (f t ≡ true) ⊎ (g t ≡ true) → ((f t || some f ts) || (g t || some g ts)) ≡ true
-    here (inl e) = or_left _ (or_left _ e)
-    here (inr e) = or_right (f t || some f ts) (or_left _ e)
+    here (inl e) = or_left _ _ (or_left _ _ e)
+    here (inr e) = or_right (f t || some f ts) _ (or_left _ _ e)
 any_some P f g so (t ∷ ts) (inr r) = there (f t) (g t) (some f ts) (some g ts) (any_some P f g so ts r)
   where
     there : (a b c d : Bool) → (c || d) ≡ true → ((a || c) || (b || d)) ≡ true
@@ -167,8 +167,8 @@ module _ (h : ℤ) (h_some : pos 0 ≤ℤ h) (ts : List Triangle) (closed : Clos
   -- ---- chains
 
   first_cell : {k m : Point} (f : Point → Bool) (c : Chain k m) → f k ≡ true → some f (cells c) ≡ true
-  first_cell f (only k) e = or_left _ e
-  first_cell f (step k s c) e = or_left _ e
+  first_cell f (only k) e = or_left _ _ e
+  first_cell f (step k s c) e = or_left _ _ e
 
   -- a chain of cells that starts inside and ends outside contains a cell that is thin by a triangle of the list
   pub chain_sealed : {k m : Point} (c : Chain k m) → inside (centre h k) ts ≡ true → inside (centre h m) ts ≡ false
@@ -179,10 +179,10 @@ module _ (h : ℤ) (h_some : pos 0 ≤ℤ h) (ts : List Triangle) (closed : Clos
       by_bool : (b : Bool) → b ≡ inside (centre h l) ts
           → (inside (centre h l) ts ≡ true → inside (centre h m) ts ≡ false → some (λ i. some (thin h i) ts) (cells c) ≡ true)
           → (some (thin h k) ts || some (λ i. some (thin h i) ts) (cells c)) ≡ true
-      by_bool true e rest = or_right _ (rest (sym e) o)
+      by_bool true e rest = or_right _ _ (rest (sym e) o)
       by_bool false e rest = here (or_cases _ _ (neighbours_sealed s (ap (λ x. x ⊻ inside (centre h l) ts) i ∙ ap not (sym e))))
         where
           here : (some (thin h k) ts ≡ true) ⊎ (some (thin h l) ts ≡ true)
               → (some (thin h k) ts || some (λ i. some (thin h i) ts) (cells c)) ≡ true
-          here (inl y) = or_left _ y
-          here (inr y) = or_right _ (first_cell (λ i. some (thin h i) ts) c y)
+          here (inl y) = or_left _ _ y
+          here (inr y) = or_right _ _ (first_cell (λ i. some (thin h i) ts) c y)

@@ -12,7 +12,8 @@ use Rattle.algebra.proofs.Ring.{var, ◌⊕◌, ◌⊖◌, ◌⊗◌, ring}
 use Rattle.algebra.proofs.Order.{nonneg_of_pos, gap, only_zero, not_zero, lt_not_le, plus_nonpos, pos_plus, plus_pos}
 use Rattle.algebra.proofs.Order.{mul_nonneg, mul_pos, mul_nonpos, mul_neg, pos_of_mul, nonpos_of_mul, by_sign}
 use Rattle.algebra.proofs.Parity.{xor_assoc, xor_comm, xor_left, xor_same}
-use Rattle.algebra.proofs.Tests.{le_true, le_false, never}
+use Rattle.std.proofs.lemmas.Bool.{false_from_ne_true}
+use Rattle.algebra.proofs.Tests.{le_true, le_false}
 use Rattle.mesh.proofs.Exprs.{Zero}
 use Rattle.mesh.proofs.Means.{levels}
 
@@ -184,12 +185,12 @@ module _ (p1 p2 : ℤ) (J1 J2 Dn Df Cn Cf : Bool) (even : (J1 ⊻ J2 ⊻ Dn ⊻ 
       four
       (and_never Dn Cn (λ d. left p1 n1 p2 n2 Cn low un (hn d)))
       (and_never Df Cf (λ d. left p1 f1 p2 f2 Cf (g1 low) uf (hf d)))
-      (ap (λ k. k && le_z p1 (pos 0)) (never J1 (λ k. lt_not_le n1 (pos 0) low (j1 k))))
+      (ap (λ k. k && le_z p1 (pos 0)) (false_from_ne_true J1 (λ k. lt_not_le n1 (pos 0) low (j1 k))))
       (and_never J2 _ (λ _. le_false p2 (pos 0) b)))
       (λ (high : pos 0 ≤ℤ n1).
       let low : n2 <ℤ pos 0 = by_lt_z n2 (pos 0) (λ l. l) (λ n. absurd (lt_not_le _ _ un
       (turn_less _ (p2 *ℤ n1) (p1 *ℤ n2) refl (mul_nonneg p2 n1 (nonneg_of_pos p2 b) high) (nonpos_mul p1 n2 a n)))) in
-      let none = never J2 (λ k. lt_not_le n2 (pos 0) low (j2 k)) in
+      let none = false_from_ne_true J2 (λ k. lt_not_le n2 (pos 0) low (j2 k)) in
       four
       (and_when Dn Cn (λ d. right p1 n1 p2 n2 Cn low un (hn d)))
       (and_when Df Cf (λ d. right p1 f1 p2 f2 Cf (g2 low) uf (hf d)))

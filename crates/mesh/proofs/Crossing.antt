@@ -2,13 +2,13 @@
 -- exactly if p/q is at most X; so along a row a crossing only ever begins. A triangle whose plane lies along the row has an even count of
 -- sides by itself, so that leaving it out loses nothing. And a triangle crosses the same whatever the order of its corners.
 use Rattle.std.proofs.Common.{◌≡◌, Bool, true, false, not, ◌&&◌, [], ◌∷◌, ℤ, pos, ◌+ℤ◌, ◌-ℤ◌, ◌*ℤ◌, ◌≤ℤ◌, ◌<ℤ◌, sym, refl, ap, ◌∙◌, subst}
-use Rattle.std.proofs.lemmas.Bool.{and_left}
+use Rattle.std.proofs.lemmas.Bool.{and_left, false_from_ne_true}
 use lib.Signed.{le_z}
 use Rattle.algebra.specs.Parity.{◌⊻◌}
 use Rattle.algebra.proofs.Ring.{var, ◌⊕◌, ◌⊖◌, ◌⊗◌, ring}
 use Rattle.algebra.proofs.Order.{gap, plus_nonneg, mul_nonneg, square_nonneg}
 use Rattle.algebra.proofs.Parity.{xor_assoc, xor_comm, xor_same}
-use Rattle.algebra.proofs.Tests.{le_true, le_of, le_less, both, and_same, and_split, never}
+use Rattle.algebra.proofs.Tests.{le_true, le_of, le_less, both, and_same, and_split}
 use Rattle.geometry.specs.declared.mesh.Point.{Point}
 use Rattle.geometry.specs.declared.mesh.Triangle.{Triangle}
 use Rattle.geometry.specs.Geometry.{is_zero, normal_of, counts, covers, plane, crosses}
@@ -74,7 +74,7 @@ crossing_begins t X X' Y Z h e =
 -- an even number of its sides count
 pub flat_counts_even : (p : Point) (t : Triangle) → (normal_of t).x ≡ pos 0
     → (counts p t.v0 t.v1 ⊻ counts p t.v1 t.v2 ⊻ counts p t.v2 t.v0) ≡ false
-flat_counts_even p t z = never (three_sides (counts p) t) (λ o. crossed_turns (shift p t) (sym (odd_counts_is p t) ∙ o) (nx_shift p t ∙ z))
+flat_counts_even p t z = false_from_ne_true (three_sides (counts p) t) (λ o. crossed_turns (shift p t) (sym (odd_counts_is p t) ∙ o) (nx_shift p t ∙ z))
 
 -- so the count of sides alone tells what covers the row
 pub covers_by_counts : (p : Point) (t : Triangle)

@@ -5,14 +5,14 @@
 use Rattle.std.proofs.Common.{◌≡◌, Bool, true, false, not, ◌&&◌, [], ◌∷◌, ℤ, pos, ◌+ℤ◌, ◌-ℤ◌, ◌*ℤ◌, ◌≤ℤ◌, ◌<ℤ◌, sym, refl, ap, ◌∙◌, subst, arith}
 use mathlib.Core.Bool.{false≢true}
 use Rattle.std.proofs.lemmas.Int.{ints}
-use Rattle.std.proofs.lemmas.Bool.{and_left}
+use Rattle.std.proofs.lemmas.Bool.{and_left, false_from_ne_true}
 use lib.Signed.{lt_z, le_z}
 use Rattle.algebra.specs.Parity.{◌⊻◌}
 use Rattle.algebra.proofs.Ring.{var, ◌⊕◌, ◌⊖◌, ◌⊗◌, ring}
 use Rattle.algebra.proofs.Order.{nonneg_of_pos, gap, pos_plus, plus_pos, mul_nonneg, mul_pos, mul_nonpos, nonneg_of_mul, neg_of_mul}
 use Rattle.algebra.proofs.Order.{square_pos, by_sign, lt_scaled}
 use Rattle.algebra.proofs.Parity.{xor_false, xor_same}
-use Rattle.algebra.proofs.Tests.{le_true, le_false, lt_true, lt_false, and_true, and_same, never}
+use Rattle.algebra.proofs.Tests.{le_true, le_false, lt_true, lt_false, and_true, and_same}
 use Rattle.geometry.specs.declared.mesh.Point.{Point}
 use Rattle.geometry.specs.declared.mesh.Triangle.{Triangle}
 use Rattle.geometry.specs.Geometry.{is_zero, normal_of, counts, covers, plane, crosses}
@@ -288,7 +288,7 @@ covers_is p t =
     guard g r h = by_bool (is_zero g) refl
       where
         by_bool : (z : Bool) → z ≡ is_zero g → (not z && r) ≡ r
-        by_bool true e = sym (never r (λ k. h k (zero_of g (sym e))))
+        by_bool true e = sym (false_from_ne_true r (λ k. h k (zero_of g (sym e))))
         by_bool false e = refl
 
 -- a crossing at p is a crossing at the origin

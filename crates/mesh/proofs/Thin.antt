@@ -4,7 +4,8 @@ use Rattle.std.proofs.Common.{◌≡◌, Bool, true, ◌||◌, ◌⊎◌, ◌↔
 use Rattle.std.proofs.lemmas.Int.{ints}
 use Rattle.algebra.proofs.Ring.{Expr, var, ◌⊕◌, ◌⊖◌, ◌⊗◌, ring}
 use Rattle.algebra.proofs.Order.{nonneg_of_pos, gap, of_gap, mul_nonneg, nonneg_of_mul}
-use Rattle.algebra.proofs.Tests.{le_true, le_of, or_left, or_right, or_cases, both, and_split}
+use Rattle.std.proofs.lemmas.Bool.{or_left, or_right, or_cases}
+use Rattle.algebra.proofs.Tests.{le_true, le_of, both, and_split}
 use Rattle.geometry.specs.declared.mesh.Point.{Point}
 use Rattle.geometry.specs.declared.mesh.Triangle.{Triangle}
 use Rattle.geometry.specs.Geometry.{normal_of, edge, plane}
@@ -292,15 +293,15 @@ module _ (h : ℤ) (k : Point) (t : Triangle) where
 
   pub thin_by_x : ((normal_of t).x ≡ pos 0 → ⊥) → Near (λ p. p.y) (λ p. p.z) (λ p. p.x) h (centre h k) t → thin h k t ≡ true
   unfolding thin
-  thin_by_x turns nr = or_left z_near (or_left y_near (near_x h (centre h k) t turns nr))
+  thin_by_x turns nr = or_left _ z_near (or_left _ y_near (near_x h (centre h k) t turns nr))
 
   pub thin_by_y : ((normal_of t).y ≡ pos 0 → ⊥) → Near (λ p. p.z) (λ p. p.x) (λ p. p.y) h (centre h k) t → thin h k t ≡ true
   unfolding thin
-  thin_by_y turns nr = or_left z_near (or_right x_near (near_y h (centre h k) t turns nr))
+  thin_by_y turns nr = or_left _ z_near (or_right x_near _ (near_y h (centre h k) t turns nr))
 
   pub thin_by_z : ((normal_of t).z ≡ pos 0 → ⊥) → Near (λ p. p.x) (λ p. p.y) (λ p. p.z) h (centre h k) t → thin h k t ≡ true
   unfolding thin
-  thin_by_z turns nr = or_right (x_near || y_near) (near_z h (centre h k) t turns nr)
+  thin_by_z turns nr = or_right (x_near || y_near) _ (near_z h (centre h k) t turns nr)
 
   thin_cases : thin h k t ≡ true → ((x_near ≡ true) ⊎ (y_near ≡ true)) ⊎ (z_near ≡ true)
   unfolding thin

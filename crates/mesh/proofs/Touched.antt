@@ -5,7 +5,8 @@ use Rattle.std.proofs.lemmas.Int.{ints, by_lt_z}
 use lib.Signed.{le_z}
 use Rattle.algebra.proofs.Ring.{var, ◌⊕◌, ◌⊖◌, ◌⊗◌, ring}
 use Rattle.algebra.proofs.Order.{gap, of_gap, plus_nonneg, mul_nonneg, nonneg_of_mul}
-use Rattle.algebra.proofs.Tests.{le_true, or_left, or_right, both}
+use Rattle.std.proofs.lemmas.Bool.{or_left, or_right}
+use Rattle.algebra.proofs.Tests.{le_true, both}
 use Rattle.geometry.specs.declared.mesh.Point.{Point}
 use Rattle.geometry.specs.declared.mesh.Triangle.{Triangle}
 use Rattle.geometry.specs.Geometry.{normal_of, edge, plane}
@@ -45,9 +46,9 @@ module _ (f : Point → ℤ) (w : Weights) (t : Triangle) where
       (λ q. by_lt_z hi (f t.v2)
       (λ r. absurd (past _ _ _ _ w.not_none m (mean_least (hi +ℤ pos 1) (next _ _ p) (next _ _ q) (next _ _ r))
       (ring (total w ∷ hi ∷ []) (var 0 ⊗ (var 1 ⊕ One)) (var 0 ⊗ var 1 ⊕ var 0) refl)))
-      (λ r. or_right _ (le_true _ _ r)))
-      (λ q. or_left _ (or_right _ (le_true _ _ q))))
-      (λ p. or_left _ (or_left _ (le_true _ _ p)))
+      (λ r. or_right _ _ (le_true _ _ r)))
+      (λ q. or_left _ _ (or_right _ _ (le_true _ _ q))))
+      (λ p. or_left _ _ (or_left _ _ (le_true _ _ p)))
     where
       next : (a b : ℤ) → a <ℤ b → (a +ℤ pos 1) ≤ℤ b
       next a b h = omega (arith, ints)
@@ -62,9 +63,9 @@ module _ (f : Point → ℤ) (w : Weights) (t : Triangle) where
       (λ q. by_lt_z (f t.v2) lo
       (λ r. absurd (past _ _ _ _ w.not_none m (mean_most (lo -ℤ pos 1) (next _ _ p) (next _ _ q) (next _ _ r))
       (ring (total w ∷ lo ∷ []) (var 0 ⊗ (var 1 ⊖ One)) (var 0 ⊗ var 1 ⊖ var 0) refl)))
-      (λ r. or_right _ (le_true _ _ r)))
-      (λ q. or_left _ (or_right _ (le_true _ _ q))))
-      (λ p. or_left _ (or_left _ (le_true _ _ p)))
+      (λ r. or_right _ _ (le_true _ _ r)))
+      (λ q. or_left _ _ (or_right _ _ (le_true _ _ q))))
+      (λ p. or_left _ _ (or_left _ _ (le_true _ _ p)))
     where
       next : (a b : ℤ) → a <ℤ b → a ≤ℤ (b -ℤ pos 1)
       next a b h = omega (arith, ints)
@@ -107,8 +108,8 @@ greatest lo hi A T m l g =
     neg a h = omega (arith, ints)
 
 end_so : (h k : ℤ) (f : ℤ → Bool) {q : ℤ} → (q ≡ low h k) ⊎ (q ≡ high h k) → f q ≡ true → at_end h k f ≡ true
-end_so h k f (inl e) y = or_left _ (ap f (sym e) ∙ y)
-end_so h k f (inr e) y = or_right _ (ap f (sym e) ∙ y)
+end_so h k f (inl e) y = or_left _ _ (ap f (sym e) ∙ y)
+end_so h k f (inr e) y = or_right _ _ (ap f (sym e) ∙ y)
 
 module _ (h : ℤ) (k : Point) (t : Triangle) (to : Touches h k t) where
   abbrev W : Weights

@@ -8,7 +8,7 @@ use Rattle.octree.specs.declared.cells.GroupId.{GroupId}
 use Rattle.octree.specs.declared.cells.Kind.{Kind}
 use Rattle.octree.specs.declared.cells.Kind.TheVariants.{Mixed}
 use Rattle.octree.specs.declared.store.Store.{Store}
-use Rattle.octree.specs.Trees.{no_group, child_at, has_group, has, FreedList, freed_at}
+use Rattle.octree.specs.Trees.{no_group, child_at, has_group, FreedList, freed_at}
 use Rattle.octree.specs.OnTheWay.{all_empty, all_solid, kind_of, blend, Apart, Taken, Freed, Settled}
 use Rattle.octree.proofs.Eights.{all8_each}
 use Rattle.octree.proofs.NeedLaws.{blend_empty, blend_solid}

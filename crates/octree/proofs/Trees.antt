@@ -6,7 +6,7 @@ use Rattle.block.specs.declared.cells.Cell.{Cell}
 use Rattle.octree.specs.declared.cells.Child.{Child}
 use Rattle.octree.specs.declared.cells.Child.TheVariants.{Empty, Solid, Split}
 use Rattle.octree.specs.declared.cells.Group.{Group}
-use Rattle.octree.specs.declared.cells.Kind.TheVariants.{AllEmpty, AllSolid, Mixed}
+use Rattle.octree.specs.declared.cells.Kind.TheVariants.{Mixed}
 use Rattle.octree.specs.Regions.{width, origin, plus, start_of, sum8, all8, all_are, mixed, need_of}
 use Rattle.octree.specs.Trees.{no_group, children_of, child_at, which_child, minus, is_solid, solid_at, one, has_group, has, group_count, uses}
 use Rattle.octree.specs.OnTheWay.{kind_of, wants, Shows, Tight}

@@ -10,7 +10,7 @@ use crate::tree::in_order;
 use block::Run;
 
 /// Changes a run of cells in a region, and answers what the region is then. At no time are more groups in use than before or after.
-#[tactic(auto, using(crate::proofs::Reading::readable_there, crate::proofs::Reading::readable_part, crate::proofs::Turning::ready_readable))]
+#[tactic(auto, using(crate::proofs::Reading::readable_there, crate::proofs::Turning::ready_readable))]
 pub(crate) fn turn(store: &mut Store<'_>, region: Child, level: Level, run: Run) -> Child
     requires { Ready store.old level.number region run }
     ensures { Moved store.old level.number region (flipped run (solid_at store.old.groups.now level.number region)) store.new result }

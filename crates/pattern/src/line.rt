@@ -65,8 +65,8 @@ fn line_of<'a>(kind: Option<Kind>, mut args: Words<'a>) -> Line<'a>
 }
 
 impl<'a> Line<'a> {
-    #[tactic(auto, unfolding(crate::specs::Lines::said))]
     /// What the line of these bytes, without its line feed, is.
+    #[tactic(auto, unfolding(crate::specs::Lines::said))]
     pub fn new(text: &'a [u8]) -> Line<'a>
         ensures said { said_by result ≡ said text.now }
         ensures told { Told result }

@@ -1,9 +1,13 @@
 -- The runs of a row are its longest runs of solid cells, and no other list of runs is.
 use Rattle.std.proofs.Common.{◌≡◌, ℕ, zero, suc, ◌+◌, ◌-◌, ◌<◌, ◌≤◌, Bool, true, false, eqb, List, [], ◌∷◌, length, get_or, sym, refl, ap, ◌∙◌, subst, ap₂, ⊎_elim, arith}
 use Rattle.std.proofs.lemmas.Bool.{true≢false, cases_lt, cases_order, cond_both, eqb-true, eqb-false}
+use Rattle.std.specs.Iterator.{YieldsFirst}
+use Rattle.std.proofs.lemmas.Iterator.{YieldsList}
+use Rattle.std.proofs.lemmas.Iterator.Consumers.{YieldsList-from_first}
 use Rattle.rows.specs.Rows.{AllAre as CellsAre, Longest}
 use Rattle.geometry.specs.declared.facet.extent.Span.{Span}
-use Rattle.rows.specs.Runs.{LongestRun, LongestRuns, run_in, led, runs, told_from, told_runs}
+use Rattle.rows.specs.declared.RowRuns.{RowRuns}
+use Rattle.rows.specs.Runs.{LongestRun, LongestRuns, run_in, led, runs, told_from, told_runs, runs_left}
 
 -- runs of the same cells
 pub runs_same : (p q : ℕ → Bool) (x k : ℕ) → ((j : ℕ) → x ≤ j → j < x + k → p j ≡ q j) → runs p x k ≡ runs q x k
@@ -229,3 +233,22 @@ told_all cells = ap (runs (λ x. get_or cells x false) 0) (omega arith)
 -- and all of them are the longest runs
 pub told_longest : (cells : List Bool) (rs : List Span) → rs ≡ told_runs cells → LongestRuns (length cells) (λ x. get_or cells x false) rs
 told_longest cells rs e = subst (LongestRuns (length cells) (λ x. get_or cells x false)) (sym e) (runs_longest (length cells) (λ x. get_or cells x false))
+
+-- ---- there are no more runs than cells
+
+length-led : (x : ℕ) (rs : List Span) → length (led x rs) ≤ length rs + 1
+length-led x [] = omega arith
+length-led x (r ∷ rs) = cond_both (eqb r.start (x + 1)) _ _ (λ ts. length ts ≤ length (r ∷ rs) + 1) (λ e. omega arith) (λ e. omega arith)
+
+length-runs : (p : ℕ → Bool) (x k : ℕ) → length (runs p x k) ≤ k
+length-runs p x zero = omega arith
+length-runs p x (suc k) =
+    cond_both (p x) _ _ (λ ts. length ts ≤ suc k) (λ e. omega (arith, length-led x (runs p (x + 1) k), length-runs p (x + 1) k)) (λ e. omega (arith, length-runs p (x + 1) k))
+
+pub length-told_runs : (cells : List Bool) → length (told_runs cells) ≤ length cells
+length-told_runs cells = length-runs (λ x. get_or cells x false) 0 (length cells)
+
+-- ---- what a loop over them takes
+
+pub YieldsList-from_runs : {s : RowRuns} (cells : List Bool) → runs_left s ≡ told_runs cells → YieldsList (YieldsFirst runs_left) (λ r. r) s (told_runs cells)
+YieldsList-from_runs cells e = YieldsList-from_first (λ r. r) runs_left (told_runs cells) e

@@ -41,6 +41,8 @@ impl Coat {
     }
 }
 
+// `HoldsAll` is asked in each function that marks: a struct with the board and this fact was tried, and then each owes that the loan stays.
+
 /// Marks one cell, if it is one of the skin.
 fn mark_cell(board: &mut Dense, coat: &Coat, cell: Cell)
     requires room { HoldsAll board.old }

@@ -1,5 +1,5 @@
 -- What the calls of a span block answer, and leave.
-use Rattle.std.proofs.Common.{◌≡◌, ℕ, zero, suc, ◌<◌, ◌≤◌, Bool, true, false, cond, ◌&&◌, ltb, List, [], is_ok, Ok, Err, OnErr, OnOk, Result, sym, refl, ap, ◌∙◌, subst, arith}
+use Rattle.std.proofs.Common.{◌≡◌, ℕ, zero, suc, ◌<◌, ◌≤◌, false, cond, ◌&&◌, ltb, List, [], is_ok, Ok, Err, OnErr, OnOk, Result, sym, refl, ap, ◌∙◌, subst, arith}
 use Rattle.std.proofs.lemmas.Bool.{and_right, lt-ltb}
 use Rattle.block.specs.Drawing.{blank, turned}
 use Rattle.block.proofs.Turns.{turned_high}

@@ -1,16 +1,17 @@
 -- Rising places: which numbers are among them, how many they are, and the drawing that they tell.
-use Rattle.std.proofs.Common.{◌≡◌, ℕ, zero, suc, ◌+◌, ◌%◌, ◌<◌, ◌≤◌, Bool, true, false, cond, ◌&&◌, ◌||◌, eqb, ltb, leb, List, [], ◌∷◌, length, get_or, take, drop, Ordering, Less, Equal, Greater, sym, refl, ap, ◌∙◌, subst, ⊎_elim, arith}
+use Rattle.std.proofs.Common.{◌≡◌, ℕ, zero, suc, ◌+◌, ◌%◌, ◌<◌, ◌≤◌, Bool, true, false, ◌&&◌, ◌||◌, eqb, ltb, leb, List, [], ◌∷◌, length, get_or, Ordering, Less, Equal, Greater, sym, refl, ap, ◌∙◌, subst, ⊎_elim, arith}
 use mathlib.Core.Path.{fun_ext}
-use Rattle.std.specs.List.{AllByRecursion}
+use Rattle.std.specs.List.{AllByRecursion, AllWithin}
 use Rattle.std.specs.Cmp.{ranks, unsigned_tied}
 use Rattle.std.specs.Ordering.{eq_by_cmp, MatchOrdering, nat_cmp}
-use Rattle.std.specs.List.Sorted.{IsStrictlySortedBy, IsStrictlyIncreasing}
+use Rattle.std.specs.List.Sorted.{IsPartitionPoint, IsStrictlySortedBy, IsStrictlyIncreasing}
 use Rattle.std.proofs.lemmas.Map.Keys.{below_from_sorted, sorted_from_strictly_increasing}
 use Rattle.std.proofs.lemmas.Bool.{ltb-true, lt-ltb, le-ltb, le-leb, lt-leb, eq-eqb, ne_eqb, cases_eq, cases_lt, and_left, and_parts, or_left, or_right}
 use Rattle.algebra.specs.Parity.{◌⊻◌}
 use Rattle.algebra.proofs.Parity.{xor_false, xor_same}
 use Rattle.block.specs.Drawing.{turned}
 use Rattle.toggles.specs.Toggled.{has}
+use Rattle.toggles.proofs.Rising.{back_within}
 use Rattle.spans.specs.Changes.{ChangePlaces, count, differs}
 use Rattle.spans.specs.Shown.{odd, shown, upto}
 use Rattle.spans.specs.Laws.{shown_within}
@@ -133,24 +134,29 @@ module _ (m : ℕ) (d : ℕ → Bool) (ps : List ℕ) (h : ChangePlaces m d ps) 
 
 -- ---- how many of them are at most a number
 
-upto_none : (k : ℕ) (ps : List ℕ) → AllByRecursion (λ y. nat_cmp k y ≡ Less) ps → upto ps k ≡ 0
+upto_none : (k : ℕ) (ps : List ℕ) → AllWithin (λ y. nat_cmp k y ≡ Less) ps 0 (length ps) → upto ps k ≡ 0
 unfolding upto
 upto_none k [] h = refl
 upto_none k (p ∷ ps) h =
-    let l : k < p = ranked k p Less h.0 in
+    let l : k < p = ranked k p Less (h 0 0 (omega arith) (omega arith)) in
     let a = ap one (lt-leb p k l) in
-    omega (arith, upto_none k ps h.1)
+    omega (arith, upto_none k ps (λ j d from to. h (suc j) d (omega arith) (omega arith)))
 
 -- as many as stand before the place at which it belongs
-pub upto_missing : (k : ℕ) (ps : List ℕ) (i : ℕ) → i ≤ length ps → AllByRecursion (λ y. nat_cmp k y ≡ Greater) (take i ps) → AllByRecursion (λ y. nat_cmp k y ≡ Less) (drop i ps)
-    → upto ps k ≡ i
+pub upto_missing : (k : ℕ) (ps : List ℕ) (i : ℕ) → i ≤ length ps → IsPartitionPoint (λ y. nat_cmp k y ≡ Greater) (λ y. nat_cmp k y ≡ Less) ps i → upto ps k ≡ i
 unfolding upto
-upto_missing k ps zero le low high = upto_none k ps high
-upto_missing k [] (suc i) le low high = absurd (omega arith)
-upto_missing k (p ∷ ps) (suc i) le low high =
-    let l : p < k = ranked k p Greater low.0 in
+upto_missing k ps zero le parts = upto_none k ps parts.1
+upto_missing k [] (suc i) le parts = absurd (omega arith)
+upto_missing k (p ∷ ps) (suc i) le parts =
+    let l : p < k = ranked k p Greater (parts.0 0 0 (omega arith) (omega arith)) in
     let a = ap one (le-leb p k (omega arith)) in
-    omega (arith, upto_missing k ps i (omega arith) low.1 high)
+    omega (
+      arith,
+      upto_missing k ps i (omega arith) (
+        λ j d from to. parts.0 (suc j) d (omega arith) (omega arith),
+        λ j d from to. parts.1 (suc j) d (omega arith) (omega arith),
+      ),
+    )
 
 -- and itself, where it is one of them
 pub upto_found : (k : ℕ) (ps : List ℕ) (i : ℕ) → IsStrictlySortedBy nat_cmp ps → i < length ps → nat_cmp k (get_or ps i k) ≡ Equal → upto ps k ≡ i + 1
@@ -159,7 +165,8 @@ upto_found k [] i s l h = absurd (omega arith)
 upto_found k (p ∷ ps) zero s l h =
     let e : k ≡ p = ranked k p Equal h in
     let a = ap one (le-leb p k (omega arith)) in
-    omega (arith, upto_none k ps (subst (λ q. AllByRecursion (λ y. nat_cmp q y ≡ Less) ps) (sym e) s.0))
+    let above = back_within (λ y. nat_cmp k y ≡ Less) 0 ps (subst (λ q. AllByRecursion (λ y. nat_cmp q y ≡ Less) ps) (sym e) s.0) in
+    omega (arith, upto_none k ps above)
 upto_found k (p ∷ ps) (suc i) s l h =
     let e : k ≡ get_or ps i k = ranked k (get_or ps i k) Equal h in
     let b : p < k = omega (arith, below_from_sorted (p ∷ ps) 0 (suc i) k s (omega arith) l) in

@@ -58,5 +58,5 @@ module _ (m : ℕ) (d : ℕ → Bool) (ps qs : List ℕ) (lo hi n : ℕ) (h : Ch
       let f = toggle_refused ps qs n lo false answer h.rising refl in
       let a = new_place lo (omega arith) f.0 in
       let short : n < changes m (turned d lo hi) =
-          omega (arith, h.many, f.1, changes_to_end m d lo hi (omega arith) e, ap one a, ap (λ v. one (v ⊻ true)) a) in
+      omega (arith, h.many, f.1, changes_to_end m d lo hi (omega arith) e, ap one a, ap (λ v. one (v ⊻ true)) a) in
       ran (Err v) tt short

@@ -1,6 +1,7 @@
 -- What the meaning of a block asks of a span block.
 use Rattle.std.specs.Prelude.{◌≡◌, ℕ, zero, suc, ◌≤◌, Bool, true, false, List, length, nat_le, nat_lt, refl}
-use Rattle.std.proofs.Common.{◌∙◌, arith}
+use Rattle.std.proofs.Common.{◌+◌, ◌∙◌, ap, sym}
+use lib.Dec.{leb-zero}
 use Rattle.std.proofs.lemmas.Bool.{le-leb, le-ltb, and_left}
 use Rattle.block.specs.Drawing.{blank}
 use Rattle.toggles.proofs.Sizes.{within_room}
@@ -14,15 +15,15 @@ pub blank_changes : (n : ℕ) → changes n blank ≡ 0
 unfolding count differs
 blank_changes zero = refl
 blank_changes (suc zero) = refl
-blank_changes (suc (suc n)) = omega (arith, blank_changes (suc n))
+blank_changes (suc (suc n)) = ap (λ k. 0 + k) (blank_changes (suc n))
 
 -- it fits
 pub blank_fits : (b : Spans) → fits_in b blank ≡ true
-blank_fits b = le-leb (changes (volume_of b) blank) (length (lent_to b)) (omega (arith, blank_changes (volume_of b)))
+blank_fits b = ap (λ k. nat_le k (length (lent_to b))) (blank_changes (volume_of b)) ∙ leb-zero (length (lent_to b))
 
 -- a drawing fits where there is room for its change places
 pub listed_fits : (m n : ℕ) (d : ℕ → Bool) (ps : List ℕ) → ChangePlaces m d ps → length ps ≤ n → nat_le (changes m d) n ≡ true
-listed_fits m n d ps h l = le-leb (changes m d) n (omega (arith, h.many))
+listed_fits m n d ps h l = ap (λ k. nat_le k n) (sym h.many) ∙ le-leb (length ps) n l
 
 -- the present drawing fits
 pub kept_fits : (b : Spans) → Sound b → fits_in b (drawing_of b) ≡ true

@@ -1,5 +1,5 @@
 -- What a span block means.
-use Rattle.std.specs.Prelude.{◌≡◌, ℕ, ◌*◌, Bool, List, length}
+use Rattle.std.specs.Prelude.{ℕ, ◌*◌, Bool, List, length}
 use Rattle.refusals.specs.BoxSides.{cells_of}
 use Rattle.block.specs.Keeps.{Keeps}
 use Rattle.toggles.specs.Present.{SameShelf, lent, present}

@@ -50,7 +50,10 @@ fn a_tetrahedron_closes(rt: HostRuntime) {
 #[test]
 fn eleven_places_are_too_few(rt: HostRuntime) {
     let mut shelf = shelf();
-    assert_eq!(rt; check_sides(&tetrahedron(), &mut shelf[0..11]), Err(Leak::ShortShelf));
+    assert_eq!(rt;
+        check_sides(&tetrahedron(), &mut shelf[0..11]),
+        Err(Leak::ShortShelf)
+    );
 }
 
 #[test]
@@ -59,7 +62,10 @@ fn without_a_face_a_side_is_odd(rt: HostRuntime) {
         low: point(0, 0, 41),
         high: point(0, 41, 0),
     };
-    assert_eq!(rt; check_sides(&tetrahedron()[0..3], &mut shelf()), Err(Leak::Odd(odd)));
+    assert_eq!(rt;
+        check_sides(&tetrahedron()[0..3], &mut shelf()),
+        Err(Leak::Odd(odd))
+    );
 }
 
 // The corners of the second triangle are the same points, in another order.

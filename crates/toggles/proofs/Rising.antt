@@ -1,6 +1,6 @@
 -- Keys that rise, and a key among them: it stands at one place, or belongs at one.
 use Rattle.std.proofs.Common.{◌≡◌, ℕ, zero, suc, ◌<◌, ◌≤◌, Bool, true, false, List, [], ◌∷◌, length, get_or, take, drop, Ordering, Less, Equal, Greater, sym, ap, subst, ◌∙◌, arith}
-use Rattle.std.specs.List.{AllByRecursion, insert, remove}
+use Rattle.std.specs.List.{AllByRecursion, AllWithin, insert, remove}
 use Rattle.std.specs.List.Sorted.{IsStrictlySortedBy}
 use Rattle.std.specs.Cmp.{IsTotalOrder}
 use Rattle.std.specs.Ordering.{eq_by_cmp, is_eq, ordering_reverse}
@@ -35,6 +35,21 @@ module _ {K : Type 0} (P : K → Type 0) where
   each_cut (suc i) [] h = h
   each_cut zero (x ∷ xs) h = h.1
   each_cut (suc i) (x ∷ xs) h = (h.0, each_cut i xs h.1)
+
+  -- by places
+  pub front_within : (i : ℕ) (xs : List K) → i ≤ length xs → AllByRecursion P (take i xs) → AllWithin P xs 0 i
+  front_within zero xs le h k d from to = absurd (omega arith)
+  front_within (suc i) [] le h k d from to = absurd (omega arith)
+  front_within (suc i) (x ∷ xs) le h zero d from to = h.0
+  front_within (suc i) (x ∷ xs) le h (suc k) d from to = front_within i xs (omega arith) h.1 k d (omega arith) (omega arith)
+
+  pub back_within : (i : ℕ) (xs : List K) → AllByRecursion P (drop i xs) → AllWithin P xs i (length xs)
+  back_within zero [] h k d from to = absurd (omega arith)
+  back_within zero (x ∷ xs) h zero d from to = h.0
+  back_within zero (x ∷ xs) h (suc k) d from to = back_within zero xs h.1 k d (omega arith) (omega arith)
+  back_within (suc i) [] h k d from to = absurd (omega arith)
+  back_within (suc i) (x ∷ xs) h zero d from to = absurd (omega arith)
+  back_within (suc i) (x ∷ xs) h (suc k) d from to = back_within i xs h k d (omega arith) (omega arith)
 
 -- ---- keys that rise
 

@@ -8,7 +8,7 @@ use Rattle.std.specs.List.Sorted.{IsStrictlySortedBy}
 use Rattle.std.proofs.lemmas.Cmp.{eq_by_cmp_equiv}
 use Rattle.std.proofs.lemmas.Bool.{lt-ltb, le-ltb}
 use Rattle.toggles.specs.Search.{Place, Stands}
-use Rattle.toggles.proofs.Rising.{Missing, Hit, before, after, missing, hit, sorted_put, sorted_cut, sorted_none}
+use Rattle.toggles.proofs.Rising.{Missing, Hit, back_within, front_within, before, after, missing, hit, sorted_put, sorted_cut, sorted_none}
 use Rattle.toggles.specs.Toggled.{has, PutIn, TakenOut, Tells, Toggled, Answered, Keeps}
 
 -- ---- tests
@@ -102,7 +102,8 @@ module _ {K : Type 0} {R : K → K → Ordering} (o : IsTotalOrder R) (k : K) (k
 
   pub place_stands : (r : Result ℕ ℕ) → Place R ks k r → Stands o ks k r
   place_stands (Ok i) p = p
-  place_stands (Err i) p = (p.0, lesser i p, greater i p)
+  place_stands (Err i) p =
+      (p.0, (front_within (λ y. R k y ≡ Greater) i ks p.0 (lesser i p), back_within (λ y. R k y ≡ Less) i ks (greater i p)))
 
   flip : (x y : K) → eq_by_cmp R x y ≡ eq_by_cmp R y x
   flip = (eq_by_cmp_equiv o).symm

@@ -1,8 +1,8 @@
 -- Where a search for a key ends, among any keys and then among keys that rise.
-use Rattle.std.specs.Prelude.{◌≡◌, ℕ, suc, zero, ◌<◌, ◌≤◌, ⊤, List, length, take, drop, Ok, Err, Result, slice_index_or}
+use Rattle.std.specs.Prelude.{◌≡◌, ℕ, suc, zero, ◌<◌, ◌≤◌, ⊤, List, length, Ok, Err, Result, slice_index_or}
 use Rattle.std.specs.declared.cmp.Ordering.TheVariants.{Less, Equal, Greater}
 use Rattle.std.specs.declared.cmp.Ordering.{Ordering}
-use Rattle.std.specs.List.{AllByRecursion}
+use Rattle.std.specs.List.Sorted.{IsPartitionPoint}
 use Rattle.std.specs.Cmp.{IsTotalOrder}
 
 -- the key before the place i, where there is one, is less than k
@@ -24,4 +24,4 @@ Place R ks k (Err i) = (i ≤ length ks) × IsAbovePrevious R ks k i × IsBelowN
 -- each key from there on
 abbrev pub Stands : {K : Type 0} {R : K → K → Ordering} → IsTotalOrder R → List K → K → Result ℕ ℕ → Type 0
 Stands {R} o ks k (Ok i) = (i < length ks) × (R k (slice_index_or ks i k) ≡ Equal)
-Stands {R} o ks k (Err i) = (i ≤ length ks) × AllByRecursion (λ y. R k y ≡ Greater) (take i ks) × AllByRecursion (λ y. R k y ≡ Less) (drop i ks)
+Stands {R} o ks k (Err i) = (i ≤ length ks) × IsPartitionPoint (λ y. R k y ≡ Greater) (λ y. R k y ≡ Less) ks i

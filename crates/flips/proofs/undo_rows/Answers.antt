@@ -1,46 +1,47 @@
-use Rattle.std.proofs.Common.{◌≡◌, ◌+◌, ◌-◌, ◌*◌, ◌<◌, ◌≤◌, take, ap, ◌∙◌, arith}
-use Rattle.refusals.specs.BoxSides.{cells_of}
+use Rattle.std.proofs.Common.{◌≡◌, ◌+◌, ◌-◌, ◌*◌, ◌<◌, ◌≤◌, ap, ◌∙◌, arith}
 use Rattle.flips.specs.Flips.{first_rows}
 use Rattle.flips.specs.Drawn.{drawn}
-use Rattle.flips.proofs.Rows.{rows_none}
-use Rattle.flips.proofs.RowSteps.{row_cut, cut_in_box, row_undone}
+use Rattle.flips.proofs.Kept.{kept_on}
+use Rattle.flips.proofs.Rows.{numbered, rows_none}
+use Rattle.flips.proofs.RowSteps.{cut_in_box, row_undone}
 use Rattle.flips.proofs.undo_rows.Goals as goal
 
 pub undo_flips-requires-clause-in_box : goal.undo_flips-requires-clause-in_box
 undo_flips-requires-clause-in_box g c =
     let n = g.B.Block.edge c.args.block.now in
     let solid = g.S.RowSource.solid c.args.source.now in
-    let k = c.row_flips-k.result in
-    let fs = c.row_flips-k.new.flips in
     let i = c.loop-i.i - 1 in
     let in_box : i < n * n = omega arith in
-    cut_in_box n solid i (take (k - 0) fs) (row_cut n solid i (cells_of c.side-side.result) k fs c.side-side.ensures c.row_flips-k.ensures.written) c.loop-i.invariant.2 in_box
+    let side = c.side-side.ensures in
+    let same = c.as_slice.ensures.value in
+    let told = c.row_flips-flips.ensures in
+    let cut : c.as_slice.result.now ≡ numbered n solid i = cc in
+    cut_in_box n solid i c.as_slice.result.now cut c.loop-i.invariant.kept.same_side in_box
 
 pub loop-i-preserved : goal.loop-i-preserved
 loop-i-preserved g c =
     let n = g.B.Block.edge c.args.block.now in
     let solid = g.S.RowSource.solid c.args.source.now in
-    let k = c.row_flips-k.result in
-    let fs = c.row_flips-k.new.flips in
     let i = c.loop-i.i - 1 in
     let inv = c.loop-i.invariant in
     let undone = c.undo_flips.ensures in
     let up : c.loop-i.i ≡ i + 1 = omega arith in
-    let low : i + 1 ≤ c.args.count = omega arith in (
-      undone.kept,
-      g.B.Block.ties_on c.args.block.now c.loop-i.block c.undo_flips.new.block inv.1 undone.same_loans,
-      undone.same_side ∙ inv.2,
-      undone.same_fits ∙ inv.3,
-      λ d fit way now.
-          row_undone n solid (g.B.Block.fits c.args.block.now) d i (take (k - 0) fs)
-          (row_cut n solid i (cells_of c.side-side.result) k fs c.side-side.ensures c.row_flips-k.ensures.written) inv.2 inv.3
-          (g.B.Block.drawing c.loop-i.block) (g.B.Block.drawing c.undo_flips.new.block) c.args.count low fit way
-          (inv.4 d fit way now ∙ ap (λ j. drawn n d (first_rows n solid j)) up) undone.back,
-    )
+    let low : i + 1 ≤ c.args.count = omega arith in
+    let side = c.side-side.ensures in
+    let same = c.as_slice.ensures.value in
+    let told = c.row_flips-flips.ensures in
+    let cut : c.as_slice.result.now ≡ numbered n solid i = cc in
+    record {
+      kept = kept_on g.B.Block.ties_on c.args.block.now c.loop-i.block c.undo_flips.new.block inv.kept undone.kept;
+      back = λ d fit way now.
+          row_undone n solid (g.B.Block.fits c.args.block.now) d i c.as_slice.result.now
+          cut inv.kept.same_side inv.kept.same_fits (g.B.Block.drawing c.loop-i.block) (g.B.Block.drawing c.undo_flips.new.block) c.args.count low fit way
+          (inv.back d fit way now ∙ ap (λ j. drawn n d (first_rows n solid j)) up) undone.back;
+    }
 
 pub returns-clause-back : goal.returns-clause-back
 returns-clause-back g c =
     let n = g.B.Block.edge c.args.block.now in
     let solid = g.S.RowSource.solid c.args.source.now in
     let none : c.loop-i.i ≡ 0 = omega arith in
-    λ d fit way now. c.loop-i.invariant.4 d fit way now ∙ ap (λ j. drawn n d (first_rows n solid j)) none ∙ ap (drawn n d) (rows_none n solid)
+    λ d fit way now. c.loop-i.invariant.back d fit way now ∙ ap (λ j. drawn n d (first_rows n solid j)) none ∙ ap (drawn n d) (rows_none n solid)

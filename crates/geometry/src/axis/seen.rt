@@ -1,8 +1,8 @@
-ghost use Rattle.std.specs.Prelude.{◌≡◌, if◌then◌else◌, pos, ◌-ℤ◌, ◌*ℤ◌, int_le};
-ghost use Rattle.geometry.specs.Cells.{cell_at, low, high, sign};
+ghost use Rattle.std.specs.Prelude.{◌≡◌, pos, ◌-ℤ◌, ◌*ℤ◌, int_le};
+ghost use Rattle.geometry.specs.Cells.{cell_at, sign};
 ghost use Rattle.geometry.specs.Geometry.{edge};
 ghost use Rattle.geometry.specs.Points.{point_of};
-ghost use Rattle.geometry.specs.Read.{first_of, second_of, along, half, flat_edge};
+ghost use Rattle.geometry.specs.Read.{along, end_of, first_of, flat_edge, half, second_of};
 
 use super::{Axis, Flat, View};
 use crate::arith::{det, diff};
@@ -42,9 +42,10 @@ impl Axis {
 
     /// A corner of the cell, seen along the axis, at the high ends that the flags name.
     pub(crate) fn corner(self, c: Cell, a_up: bool, b_up: bool) -> Flat
-        ensures a { result.a.value ≡ (if a_up then high half (first_of self (cell_at c.x c.y c.z)) else low half (first_of self (cell_at c.x c.y c.z))) }
-        ensures b { result.b.value ≡ (if b_up then high half (second_of self (cell_at c.x c.y c.z)) else low half (second_of self (cell_at c.x c.y c.z))) }
+        ensures a { result.a.value ≡ end_of half a_up (first_of self (cell_at c.x c.y c.z)) }
+        ensures b { result.b.value ≡ end_of half b_up (second_of self (cell_at c.x c.y c.z)) }
     {
+        // As in `seen`: one generic reading of both would need a definition and lemmas by cases of its own, and is no plainer.
         match self {
             Axis::X => Flat {
                 a: Coordinate::end(c.y, a_up),
@@ -67,13 +68,13 @@ impl Axis {
 pub(crate) fn edge(u: Flat, v: Flat, q: Flat) -> i32
     ensures { result ≡ flat_edge u.a.value u.b.value v.a.value v.b.value q.a.value q.b.value }
 {
-    det(
+    let area = det(
         diff(v.a, u.a),
         diff(v.b, u.b),
         diff(q.a, u.a),
         diff(q.b, u.b),
-    )
-    .value
+    );
+    area.value
 }
 
 impl View {

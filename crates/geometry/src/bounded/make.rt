@@ -1,9 +1,9 @@
-ghost use Rattle.std.specs.Prelude.{◌≡◌, ◌&&◌, pos, ◌+ℤ◌, ◌*ℤ◌, if◌then◌else◌, Some, None};
+ghost use Rattle.std.specs.Prelude.{◌≡◌, pos, if◌then◌else◌, Some, None};
 ghost use Rattle.std.specs.Option.{option_map};
-ghost use Rattle.geometry.specs.Cells.{cell_at, centre, low, high, middle};
+ghost use Rattle.geometry.specs.Cells.{cell_at, centre, middle};
 ghost use Rattle.geometry.specs.Range.{in_range, point_in_range};
 ghost use Rattle.geometry.specs.Points.{coordinate_of, point_of};
-ghost use Rattle.geometry.specs.Read.{half, corner_of};
+ghost use Rattle.geometry.specs.Read.{corner_of, end_of, half};
 
 use super::{Bounded, Coordinate, GREATEST, LEAST};
 use crate::mesh::{Cell, Point};
@@ -37,7 +37,7 @@ impl Coordinate {
 
     /// An end of cell `k` on an axis, the high one if `up`.
     pub(crate) fn end(k: u8, up: bool) -> Coordinate
-        ensures { result.value ≡ (if up then high half (pos k) else low half (pos k)) }
+        ensures { result.value ≡ end_of half up (pos k) }
     {
         let least = 2 * HALF_WIDTH * i32::from(k);
         Coordinate {
@@ -48,7 +48,7 @@ impl Coordinate {
 
 impl Bounded {
     /// The point, if all its coordinates are in range.
-    #[tactic(auto, using(crate::proofs::Casts::casts, crate::proofs::Checked::and_false))]
+    #[tactic(auto, using(crate::proofs::Casts::casts, std::proofs::lemmas::Bool::and_right))]
     pub fn new(p: Point) -> Option<Bounded>
         ensures { option_map point_of result ≡ (if point_in_range p then Some p else None) }
     {

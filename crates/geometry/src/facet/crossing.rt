@@ -59,6 +59,7 @@ impl Facet {
     fn covers_row_of(&self, p: Bounded) -> bool
         ensures { result ≡ covers (point_of p) (triangle_of self.now) }
     {
+        // The sides are written out for the reason told at `is_met`.
         self.normal.x.value != 0
             && side_counts(self.v0, self.v1, p)
                 ^ side_counts(self.v1, self.v2, p)

@@ -39,7 +39,7 @@ fn cross(v0: Bounded, v1: Bounded, v2: Bounded) -> Normal
 
 impl Facet {
     /// The triangle, if all its coordinates are in range.
-    #[tactic(auto, using(crate::proofs::Casts::casts, crate::proofs::Checked::and_false))]
+    #[tactic(auto, using(crate::proofs::Casts::casts, std::proofs::lemmas::Bool::and_right))]
     pub fn new(t: Triangle) -> Option<Facet>
         ensures { option_map triangle_of result ≡ (if triangle_in_range t then Some t else None) }
     {

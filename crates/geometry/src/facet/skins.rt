@@ -14,7 +14,8 @@ use crate::mesh::Cell;
 impl View {
     /// Whether `q` is at the inner side of the line from `u` to `v`, or on it.
     fn is_within_side(self, u: Bounded, v: Bounded, q: Bounded) -> bool
-        ensures { result ≡ within_side (first_of self.axis) (second_of self.axis) self.way (point_of u) (point_of v) (point_of q) }
+        ensures { result ≡ within_side (first_of self.axis) (second_of self.axis) self.way
+            (point_of u) (point_of v) (point_of q) }
     {
         self.is_inner(self.axis.edge(u, v, q))
     }
@@ -22,13 +23,13 @@ impl View {
     /// Whether some corner of the cell is at the inner side of the line from `u` to `v`, or on it. The corner that is farthest to the
     /// inner side decides.
     fn is_beside_side(self, u: Bounded, v: Bounded, c: Cell) -> bool
-        ensures { result ≡ beside_side (first_of self.axis) (second_of self.axis) self.way (point_of u) (point_of v) half (cell_at c.x c.y c.z) }
+        ensures { result ≡ beside_side (first_of self.axis) (second_of self.axis) self.way
+            (point_of u) (point_of v) half (cell_at c.x c.y c.z) }
     {
-        let from = self.axis.seen(u);
-        let to = self.axis.seen(v);
-        let farthest = self
-            .axis
-            .corner(c, self.rises(to.b, from.b), self.rises(from.a, to.a));
+        let axis = self.axis;
+        let from = axis.seen(u);
+        let to = axis.seen(v);
+        let farthest = axis.corner(c, self.rises(to.b, from.b), self.rises(from.a, to.a));
         self.is_inner(edge(from, to, farthest))
     }
 }
@@ -47,9 +48,10 @@ impl Facet {
     /// Whether the line through `q` along the axis meets the closed triangle, and the triangle does not lie along it.
     #[tactic(auto, using(crate::proofs::Casts::casts, crate::proofs::Crossing::not_zero_bits))]
     fn is_met(&self, axis: Axis, q: Bounded) -> bool
-        ensures { let t = triangle_of self.now in result ≡ met (first_of axis) (second_of axis) (along axis (normal_of t)) (point_of q) t }
+        ensures { let t = triangle_of self.now in
+            result ≡ met (first_of axis) (second_of axis) (along axis (normal_of t)) (point_of q) t }
     {
-        // The sides are written out, here and below: over an array of them each test needs a proof by hand, with `all` or without.
+        // The sides are written out, here and below: over an array of them, with `all`, each test needs a long proof by hand.
         let view = self.view(axis);
         view.way != 0
             && view.is_within_side(self.v0, self.v1, q)
@@ -59,7 +61,8 @@ impl Facet {
 
     /// Whether the plane meets the line through `q` along the axis at most half a width from `q`.
     fn is_close(&self, axis: Axis, q: Bounded) -> bool
-        ensures { let t = triangle_of self.now in result ≡ close (along axis (normal_of t)) half (point_of q) t }
+        ensures { let t = triangle_of self.now in
+            result ≡ close (along axis (normal_of t)) half (point_of q) t }
     {
         let way = self.view(axis).way;
         self.plane(q).unsigned_abs() <= HALF_WIDTH as u64 * u64::from(way.unsigned_abs())
@@ -67,7 +70,8 @@ impl Facet {
 
     /// Whether the line through `q` along the axis meets the closed triangle at most half a width from `q`.
     fn is_near(&self, axis: Axis, q: Bounded) -> bool
-        ensures { let t = triangle_of self.now in result ≡ near (first_of axis) (second_of axis) (along axis (normal_of t)) half (point_of q) t }
+        ensures { let t = triangle_of self.now in
+            result ≡ near (first_of axis) (second_of axis) (along axis (normal_of t)) half (point_of q) t }
     {
         self.is_met(axis, q) && self.is_close(axis, q)
     }
@@ -102,7 +106,8 @@ impl Facet {
 
     /// Whether no side of the triangle, seen along the axis, has the whole cell outside.
     fn is_beside(&self, axis: Axis, c: Cell) -> bool
-        ensures { let t = triangle_of self.now in result ≡ beside (first_of axis) (second_of axis) (along axis (normal_of t)) half (cell_at c.x c.y c.z) t }
+        ensures { let t = triangle_of self.now in
+            result ≡ beside (first_of axis) (second_of axis) (along axis (normal_of t)) half (cell_at c.x c.y c.z) t }
     {
         let view = self.view(axis);
         view.is_beside_side(self.v0, self.v1, c)

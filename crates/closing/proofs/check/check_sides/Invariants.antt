@@ -8,5 +8,5 @@ abbrev pub invariant-loop-t : goal.invariant-loop-t
 invariant-loop-t l = record {
   same_room : room l.loose ≡ room l.initial.loose;
   few : size l.loose ≤ 3 * l.t-index;
-  holds : Holds (present l.loose) (take l.t-index l.triangles)
+  holds : Holds (present l.loose) (take l.t-index l.triangles);
 }

@@ -1,6 +1,10 @@
 use Rattle.std.proofs.Common.{arith, rules}
-use Rattle.octree.proofs.Turning.{first_ready, second_ready, settle_apart, settle_some, turned}
+use Rattle.octree.proofs.Reading.{readable_part}
+use Rattle.octree.proofs.Turning.{ready_readable, first_ready, second_ready, settle_apart, settle_some, turned}
 use Rattle.octree.proofs.turn.+turn.Goals as goal
+
+pub in_order-requires-clause-readable : goal.in_order-requires-clause-readable
+in_order-requires-clause-readable t c = readable_part c.args.store.now.groups.now c.below-below.result.number c.args.level.number c.args.region c.children-children.result c.below-below.ensures c.children-children.ensures (ready_readable c.args.store.now c.args.level.number c.args.region c.args.run c.requires)
 
 pub turn-requires : goal.turn-requires
 turn-requires t c = (

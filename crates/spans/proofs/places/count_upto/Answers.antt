@@ -15,4 +15,4 @@ pub returns-in-Err : goal.returns-in-Err
 returns-in-Err c up =
     let ps = c.args.places.now in
     let h = c.in-Err.ensures.stands nat_cmp_total (sorted_from_strictly_increasing ps up) in
-    sym (upto_missing c.args.k ps c.in-Err.i h.0 h.1 h.2)
+    sym (upto_missing c.args.k ps c.in-Err.i h.0 h.1)

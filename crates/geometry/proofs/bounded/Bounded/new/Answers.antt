@@ -2,13 +2,14 @@ use Rattle.std.proofs.Common.{ℤ, arith}
 use Rattle.std.proofs.lemmas.Int.{to_z-of_z}
 use Rattle.geometry.specs.declared.mesh.Point.{Point}
 use Rattle.geometry.specs.Range.{in_range}
-use Rattle.geometry.proofs.Checked.{and_false, none_is, three_made}
+use Rattle.std.proofs.lemmas.Bool.{and_right}
+use Rattle.geometry.proofs.Checked.{none_is, three_made}
 use Rattle.geometry.proofs.bounded.Bounded.new.Goals as goal
 
 pub returns-in_err-new-3 : goal.returns-in_err-new-3
 returns-in_err-new-3 c =
     let e = none_is (in_range c.args.p.z) c.args.p.z (grind (arith, to_z-of_z)) in
-    grind (arith, to_z-of_z, and_false)
+    grind (arith, to_z-of_z, and_right)
 
 pub returns : goal.returns
 returns c =

@@ -1,6 +1,5 @@
-use Rattle.std.proofs.Common.{true, arith}
+use Rattle.std.proofs.Common.{arith}
 use Rattle.toggles.specs.Present.{present, room}
-use Rattle.toggles.specs.Toggled.{Answered}
 use Rattle.toggles.proofs.Sizes.{length_present}
 use Rattle.toggles.proofs.Toggling.{put_answers, full_answers, cut_answers, keeps_more}
 use Rattle.toggles.proofs.list.Toggles.toggle.Goals as goal
