@@ -17,6 +17,7 @@ use plain::{Kind, Plain};
 /// Tries a kind of block against plain cells. Its memory was used before.
 fn try_kind(heap: Global, trial: Trial) -> Result<Tally, AllocError> {
     let mut plain = Plain::new(heap, trial.side)?;
+    // an arm for each kind: the memory of each is of another type, and a block borrows it
     match trial.kind {
         Kind::Dense => {
             let mut bytes = vec![in heap; 170u8; trial.memory]?;

@@ -8,6 +8,8 @@ use refusals::BoxSide;
 mod cursor;
 mod part;
 
+// Counts beside the trays, and no vectors: the trays are the caller's memory, and stay in the caller's hands.
+
 /// How many points and faces a part has.
 #[derive(Clone, Copy, Debug, PartialEq, Eq)]
 pub struct Counts {

@@ -34,6 +34,7 @@ impl Coat {
     fn has(&self, cell: geometry::Cell) -> bool
         ensures { result ≡ made_by self.now cell.x cell.y cell.z }
     {
+        // an enum and not a closure, since the contract of `mark_skin` says which skin is marked
         match self.skin {
             Skin::Thick => self.facet.makes_thick(cell),
             Skin::Thin => self.facet.makes_thin(cell),
