@@ -31,6 +31,8 @@ pub(crate) fn count_before(text: &[u8], stop: u8) -> usize
     text.iter().take_while(|&&b| b != stop).count()
 }
 
+// Beside `count_before`: one function for both would take the test as a closure and say less plainly what each counts.
+
 /// How many spaces stand in front.
 fn count_spaces(text: &[u8]) -> usize
     ensures within { result ≤ length text.now }
