@@ -4,6 +4,8 @@ ghost use Rattle.std.specs.Prelude.{◌≡◌};
 
 use geometry::Span;
 
+// Not geometry's `Cell`, whose numbers are bytes: a block is asked for any cell, and refuses those outside.
+
 /// A cell, by how many cells lie before it on each axis. It may lie outside the box.
 #[derive(Clone, Copy, Debug, Default, PartialEq, Eq)]
 pub struct Cell {

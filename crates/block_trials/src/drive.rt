@@ -7,7 +7,7 @@ use refusals::{BoxSide, Refusal};
 use std::fmt;
 
 /// What is tried: a kind of block of a side, in so many bytes, places or groups, with so many flips.
-#[derive(Clone, Copy)]
+#[derive(Clone, Copy, Debug, PartialEq, Eq)]
 pub struct Trial {
     pub kind: Kind,
     pub side: BoxSide,
@@ -16,7 +16,7 @@ pub struct Trial {
 }
 
 /// What came of it: how many flips were made, were refused with 1 and with 12, and how often the block and the plain cells differed.
-#[derive(Clone, Copy, Default)]
+#[derive(Clone, Copy, Debug, Default, PartialEq, Eq)]
 pub struct Tally {
     made: u32,
     off_box: u32,

@@ -14,7 +14,7 @@ mod random;
 use drive::{Tally, Trial, drive};
 use plain::{Kind, Plain};
 
-/// Tries a kind of block against plain cells. Its memory was used before.
+/// Tries a kind of block against plain cells: a dense board and a span block in memory that was used before, an octree in fresh groups.
 fn try_kind(heap: Global, trial: Trial) -> Result<Tally, AllocError> {
     let mut plain = Plain::new(heap, trial.side)?;
     // an arm for each kind: the memory of each is of another type, and a block borrows it

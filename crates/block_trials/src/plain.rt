@@ -1,7 +1,7 @@
 //! A box of cells as a plain list of truth values, by cell number, and what its drawing needs in each kind of block. All of it is written
 //! apart from the blocks, so that it tells where one of them differs.
 
-ghost use Rattle.std.specs.Prelude.{◌<◌, ◌≤◌};
+ghost use Rattle.std.specs.Prelude.{◌<◌};
 
 use block::{Cell, Run};
 use refusals::{BoxSide, Refusal};
@@ -26,13 +26,11 @@ impl fmt::Display for Kind {
     }
 }
 
-/// The cells of a box of `n` cells along each axis.
-#[derive(Drop)]
+/// The cells of a box of this side.
+#[derive(Debug, Drop)]
 pub struct Plain {
-    n: usize,
+    side: BoxSide,
     cells: Vec<bool>,
-    ghost some: { 0 < n },
-    ghost few: { n ≤ 64 },
 }
 
 /// Whether the cell is one of the run.
@@ -63,15 +61,16 @@ impl Plain {
     pub fn new(heap: Global, side: BoxSide) -> Result<Plain, AllocError> {
         let n = side.cells();
         let cells = vec![in heap; false; n * n * n]?;
-        Ok(Plain { n, cells })
+        Ok(Plain { side, cells })
     }
 
     /// Whether the block has every cell as it is here.
     pub fn is_same<B: block::Block>(&self, block: &B) -> bool
         requires { B.sound block.now }
     {
+        // a `for`: of a closure over a block of any kind the check does not find that the block is sound at each call
         for (k, &solid) in self.cells.iter().enumerate() {
-            if block.look(cell_of(self.n, k)) != Ok(solid) {
+            if block.look(cell_of(self.side.cells(), k)) != Ok(solid) {
                 return false;
             }
         }
@@ -80,7 +79,7 @@ impl Plain {
 
     /// What a look at the cell should answer.
     pub fn look(&self, cell: Cell) -> Result<bool, Refusal> {
-        let n = self.n;
+        let n = self.side.cells();
         if cell.x >= n || cell.y >= n || cell.z >= n {
             return Err(Refusal::OffBox);
         }
@@ -89,7 +88,7 @@ impl Plain {
 
     /// What a flip of the run should answer, in a block of this kind with so much memory. The cells are changed if it is made.
     pub fn flip(&mut self, kind: Kind, memory: usize, run: Run) -> Result<(), Refusal> {
-        let n = self.n;
+        let n = self.side.cells();
         if run.y >= n || run.z >= n || run.start >= run.end || run.end > n {
             return Err(Refusal::OffBox);
         }
@@ -103,7 +102,7 @@ impl Plain {
 
     /// Changes the cells of the run.
     fn turn(&mut self, run: Run) {
-        let n = self.n;
+        let n = self.side.cells();
         for (k, solid) in self.cells.iter_mut().enumerate() {
             if is_met(run, cell_of(n, k)) {
                 *solid = !*solid;
@@ -111,6 +110,7 @@ impl Plain {
         }
     }
 
+    // a switch: the kinds are few, and what each needs is told here, apart from the blocks
     /// How many bytes, change places or groups the drawing needs.
     fn need(&self, kind: Kind) -> usize {
         match kind {
@@ -142,44 +142,44 @@ impl Plain {
     /// How many regions of 2 cells or more along each axis have both solid and empty cells.
     fn mixed_regions(&self) -> usize {
         let mut count = 0usize;
-        for width in [2, 4, 8, 16, 32, 64] {
+        for width in [
+            BoxSide::Two,
+            BoxSide::Four,
+            BoxSide::Eight,
+            BoxSide::Sixteen,
+            BoxSide::ThirtyTwo,
+            BoxSide::SixtyFour,
+        ] {
             count = count.saturating_add(self.mixed_of_width(width));
         }
         count
     }
 
-    /// How many regions of `width` cells along each axis have both solid and empty cells.
-    fn mixed_of_width(&self, width: usize) -> usize
-        requires { (0 < width) × (width ≤ 64) }
-    {
-        let mut count = 0usize;
-        if width <= self.n {
-            for k in 0..self.cells.len() {
-                let corner = cell_of(self.n, k);
-                if is_corner(width, corner) && self.is_mixed(width, corner) {
-                    count = count.saturating_add(1);
-                }
-            }
+    /// How many regions of this width along each axis have both solid and empty cells.
+    fn mixed_of_width(&self, width: BoxSide) -> usize {
+        let n = self.side.cells();
+        let w = width.cells();
+        if w > n {
+            return 0;
         }
-        count
+        (0..self.cells.len())
+            .map(|k| cell_of(n, k))
+            .filter(|&corner| is_corner(w, corner) && self.is_mixed(width, corner))
+            .count()
     }
 
-    /// Whether the region of `width` cells along each axis that begins at `corner` has both solid and empty cells.
-    fn is_mixed(&self, width: usize, corner: Cell) -> bool
-        requires { (0 < width) × (width ≤ 64) }
-    {
+    /// Whether the region of this width along each axis that begins at `corner` has both solid and empty cells.
+    fn is_mixed(&self, width: BoxSide, corner: Cell) -> bool {
         let first = self.look(corner);
-        for k in 0..width * width * width {
-            let step = cell_of(width, k);
+        let w = width.cells();
+        (0..w * w * w).any(|k| {
+            let step = cell_of(w, k);
             let cell = Cell {
                 x: corner.x.saturating_add(step.x),
                 y: corner.y.saturating_add(step.y),
                 z: corner.z.saturating_add(step.z),
             };
-            if self.look(cell) != first {
-                return true;
-            }
-        }
-        false
+            self.look(cell) != first
+        })
     }
 }

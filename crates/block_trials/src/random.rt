@@ -1,7 +1,7 @@
 //! Numbers that look random, the same ones in every run.
 
 /// A linear congruential generator.
-#[derive(Drop)]
+#[derive(Debug, Drop)]
 pub struct Random {
     state: u64,
 }

@@ -12,6 +12,7 @@ mod cells;
 /// The triangles of a shape.
 fn facets_of<S: Shape>(rt: &HostRuntime, shape: &S) -> anyhow::Result<Vec<Facet>> {
     let mut facets = Vec::new(rt.alloc());
+    // by number, as a shape answers its entries
     for i in 0..shape.count() {
         let Some(facet) = shape.entry(i).and_then(Facet::new) else {
             bail!("an entry is a hole, or a coordinate is out of range");
@@ -31,6 +32,7 @@ fn show<S: Shape>(rt: &HostRuntime, name: &str, casting: &S) -> anyhow::Result<(
     Ok(())
 }
 
+// As in the tests of toggle lists, which share no crate of tests with these.
 fn point(x: i32, y: i32, z: i32) -> Point {
     Point { x, y, z }
 }

@@ -26,6 +26,8 @@ pub(crate) fn is_set(cells: &[u8], k: usize) -> bool
     bit_of(cells[k / 8], k % 8)
 }
 
+// `fill_cell` and `turn_cell` differ in their operator: a function of both would take it and the word for it, and is no plainer.
+
 /// Makes cell `k` solid.
 pub(crate) fn fill_cell(cells: &mut [u8], k: usize)
     requires { k < 8 * length cells.old }

@@ -22,7 +22,7 @@ use places::is_enough;
 
 /// A board of N × N × N cells over any number of lent bytes. Cell i is bit i mod 8, the lowest first, of byte i div 8. All drawings fit if
 /// there are N × N × N / 8 bytes or more, else the blank drawing alone.
-#[derive(Drop)]
+#[derive(Debug, Drop)]
 pub struct Dense<'a> {
     side: BoxSide,
     cells: &'a mut [u8],
@@ -70,7 +70,8 @@ impl<'a> Dense<'a> {
     }
 
     // A mark and a flip have the same steps. They stay apart: a step is a line, and what it does to the drawing (`marked`, `turned`) is said
-    // of each; one function for both would take the operation and both definitions as parameters.
+    // of each; one function for both would take the operation and both definitions as parameters. That a cell's number is below the volume,
+    // and what room there is, is asked and told in each: it is said of the board and the number together, so no type of one can hold it.
 
     /// Whether the drawing fits with cell `k` marked.
     #[tactic(auto, using(crate::proofs::ShownLaws::fits_marked))]

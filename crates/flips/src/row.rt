@@ -26,7 +26,8 @@ fn row_at(side: BoxSide, number: usize) -> Row
     ensures z { result.z ≡ number / cells_of side }
 {
     let n = side.cells();
-    // `as`: both are below 64, and `try_from` would answer an error that cannot come
+    // `as`: both are below 64, and `try_from` would answer an error that cannot come; rows has the same two
+    // expressions, with another bound that makes them fit
     Row {
         y: (number % n) as u8,
         z: (number / n) as u8,

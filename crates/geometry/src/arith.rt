@@ -1,4 +1,4 @@
-//! The only sums and products of coordinates: each has a type of its own, whose bound shows that nothing overflows.
+//! Sums and products of coordinates. Gaps and areas have types that hold their bounds; what is made of them has its bound in a contract.
 
 ghost use Rattle.std.specs.Prelude.{◌≡◌, ◌^◌, ◌≤◌, ◌+ℤ◌, ◌-ℤ◌, unsigned_abs};
 ghost use Rattle.geometry.specs.Numbers.{◌·◌};

@@ -4,9 +4,10 @@ ghost use Rattle.std.specs.Prelude.{pos, negsuc, ◌≤ℤ◌};
 
 pub(crate) mod make;
 
-/// The least and the greatest coordinate in range.
+/// The least coordinate in range.
 pub const LEAST: i32 = -8192;
 
+/// The greatest coordinate in range.
 pub const GREATEST: i32 = 8191;
 
 /// A coordinate in range, from −8,192 to 8,191.

@@ -1,7 +1,7 @@
 //! Points, triangles and what they are counted by. These types hold any numbers.
 
 /// A point with whole-number coordinates, whatever they are. Points are ordered by x, then y, then z.
-#[derive(Clone, Copy, Debug, PartialEq, Eq, PartialOrd, Ord)]
+#[derive(Clone, Copy, Debug, Default, PartialEq, Eq, PartialOrd, Ord)]
 pub struct Point {
     pub x: i32,
     pub y: i32,
@@ -17,14 +17,14 @@ pub struct Triangle {
 }
 
 /// Two points that a triangle joins. Sides are ordered by `low`, then `high`.
-#[derive(Clone, Copy, Debug, PartialEq, Eq, PartialOrd, Ord)]
+#[derive(Clone, Copy, Debug, Default, PartialEq, Eq, PartialOrd, Ord)]
 pub struct Side {
     pub low: Point,
     pub high: Point,
 }
 
 /// A triangle by the numbers of its corners in a list of points, counted from 1.
-#[derive(Clone, Copy, Debug, PartialEq, Eq)]
+#[derive(Clone, Copy, Debug, Default, PartialEq, Eq)]
 pub struct Face {
     pub a: i32,
     pub b: i32,

@@ -13,7 +13,7 @@ use dense::Dense;
 use refusals::{BoxSide, Refusal};
 
 /// A layer that owns the block below, passes every call on to it, and counts the flips that were made.
-#[derive(Drop)]
+#[derive(Debug, Drop)]
 pub struct Counted<B> {
     below: B,
     flips: u64,

@@ -27,7 +27,7 @@ use turn::turn;
 
 /// A box of N × N × N cells over any number of lent groups. A drawing fits if no more of its regions of side 2 or more have both solid and
 /// empty cells than there are groups.
-#[derive(Drop)]
+#[derive(Debug, Drop)]
 pub struct Octree<'a> {
     side: BoxSide,
     store: Store<'a>,

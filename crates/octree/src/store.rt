@@ -10,8 +10,8 @@ use crate::tree::{blended, kinds};
 
 /// The lent groups. Those that no region uses are those from a mark on, which were never used, and those that were freed, in a list
 /// through themselves.
-// Groups are named by index, as the table in docs/DECISIONS.md wants it: the caller lends the memory, and nothing is got from the heap.
-#[derive(Drop)]
+// Groups are named by index, as the table in docs/DECISIONS.md has it: the caller lends the memory, and nothing is got from the heap.
+#[derive(Debug, Drop)]
 pub struct Store<'a> {
     groups: &'a mut [Group],
     /// No group from here on was ever used.
@@ -70,6 +70,8 @@ impl<'a> Store<'a> {
         change.after.saturating_sub(change.before) <= self.left() as usize
     }
 
+    // `Apart` is said of the store and a region together, so it is asked in each function of both, and is no invariant of the store.
+
     /// Takes an unused group: the one freed last, or else the first that was never used.
     #[tactic(auto, using(crate::proofs::Stock::last_within, crate::proofs::Stock::taken_freed, crate::proofs::Stock::taken_fresh))]
     fn take(&mut self) -> GroupId
@@ -109,6 +111,7 @@ impl<'a> Store<'a> {
         requires some { 0 < has_group region + left self.old }
         ensures { Taken self.old region result self.new }
     {
+        // by the cases of the region: over `region.group()` the check finds no proof
         match region {
             Child::Empty | Child::Solid => self.take(),
             Child::Split(id) => id,
@@ -120,9 +123,8 @@ impl<'a> Store<'a> {
         requires { Apart self.old region }
         ensures { Freed self.old region self.new }
     {
-        match region {
-            Child::Empty | Child::Solid => {}
-            Child::Split(id) => self.free(id),
+        if let Some(id) = region.group() {
+            self.free(id);
         }
     }
 

@@ -11,7 +11,7 @@ mod part;
 // Counts beside the trays, and no vectors: the trays are the caller's memory, and stay in the caller's hands.
 
 /// How many points and faces a part has.
-#[derive(Clone, Copy, Debug, PartialEq, Eq)]
+#[derive(Clone, Copy, Debug, Default, PartialEq, Eq)]
 pub struct Counts {
     pub points: usize,
     pub faces: usize,

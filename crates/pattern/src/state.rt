@@ -3,6 +3,9 @@
 ghost use Rattle.std.specs.Prelude.{◌≡◌, Some, None, MatchResult};
 ghost use Rattle.pattern.specs.States.{next};
 
+use std::error::Error;
+use std::fmt;
+
 /// Where in the text a reader stands.
 #[derive(Clone, Copy, Debug, PartialEq, Eq)]
 pub enum State {
@@ -28,6 +31,14 @@ pub enum Kind {
 /// A line of this kind may not come now.
 #[derive(Clone, Copy, Debug, PartialEq, Eq)]
 pub struct OutOfTurn;
+
+impl fmt::Display for OutOfTurn {
+    fn fmt<W: fmt::Write>(&self, f: &mut fmt::Formatter<W>) -> fmt::Result {
+        f.write_str("such a line may not come now")
+    }
+}
+
+impl Error for OutOfTurn {}
 
 impl State {
     /// Goes on by a line of this kind; the state stays where such a line may not come.

@@ -31,7 +31,8 @@ pub(crate) fn count_before(text: &[u8], stop: u8) -> usize
     text.iter().take_while(|&&b| b != stop).count()
 }
 
-// Beside `count_before`: one function for both would take the test as a closure and say less plainly what each counts.
+// Beside `count_before`, which is asked with two stops. One function for both would take the test as a closure, and be no shorter: each is
+// a line, whose clause names the library's word for what it counts.
 
 /// How many spaces stand in front.
 fn count_spaces(text: &[u8]) -> usize
@@ -104,7 +105,7 @@ impl<'a> Word<'a> {
 }
 
 /// The words of a line, one after another.
-#[derive(Clone, Copy)]
+#[derive(Clone, Copy, Debug, PartialEq, Eq)]
 pub(crate) struct Words<'a> {
     rest: &'a [u8],
 }

@@ -5,6 +5,8 @@ ghost use Rattle.std.specs.Prelude.{◌≡◌};
 ghost use Rattle.refusals.specs.Refusals.{number, layer, place, odd_side, word};
 
 use geometry::Side;
+use std::error::Error;
+use std::fmt;
 
 pub mod box_side;
 
@@ -149,3 +151,12 @@ impl Refusal {
         }
     }
 }
+
+/// The word of the refusal.
+impl fmt::Display for Refusal {
+    fn fmt<W: fmt::Write>(&self, f: &mut fmt::Formatter<W>) -> fmt::Result {
+        f.write_str(self.word())
+    }
+}
+
+impl Error for Refusal {}

@@ -6,9 +6,9 @@ use Rattle.geometry.specs.declared.facet.Facet.{Facet}
 use Rattle.geometry.specs.Range.{triangle_in_range}
 use Rattle.geometry.specs.Closed.{Closed as SidesClose}
 use Rattle.geometry.specs.Read.{triangle_of}
-use Rattle.report.specs.declared.verdict.Flaw.TheVariants.{Open, Hole, Wild}
-use Rattle.report.specs.declared.verdict.NotKept.{NotKept}
-use Rattle.report.specs.declared.verdict.NotKept.TheVariants.{Flawed, OutOfMemory}
+use Rattle.report.specs.declared.part.Flaw.TheVariants.{Open, Hole, Wild}
+use Rattle.report.specs.declared.part.NotKept.{NotKept}
+use Rattle.report.specs.declared.part.NotKept.TheVariants.{Flawed, OutOfMemory}
 
 -- the entries are these triangles, and all their coordinates are in range
 abbrev pub Named : List (Option Triangle) → List Triangle → Type 0

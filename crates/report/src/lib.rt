@@ -6,15 +6,15 @@ ghost use Rattle.report.specs.declared.Stop.TheVariants.{TooBig};
 
 use cells::box_cells;
 use geometry::{Face, Facet, Point};
+use part::{NotKept, judge};
 use pattern::Reader;
 use refusals::{BoxSide, Refusal};
 use rows::runs;
 use shapes::FaceList;
 use std::alloc::{AllocError, Global};
-use verdict::{NotKept, judge};
 
 mod cells;
-pub mod verdict;
+pub mod part;
 
 /// The most bytes that a text may have.
 pub const MOST_BYTES: usize = 16_384;
@@ -85,8 +85,8 @@ fn report_text(text: &[u8], out: &mut String) -> Result<(), Stop>
 
 /// A line for each part; the triangles of the parts that close are kept.
 fn report_parts(reader: &mut Reader, kept: &mut Vec<Facet>, out: &mut String) -> Result<(), Stop> {
-    let mut points = [Point { x: 0, y: 0, z: 0 }; TRAY];
-    let mut faces = [Face { a: 0, b: 0, c: 0 }; TRAY];
+    let mut points = [Point::default(); TRAY];
+    let mut faces = [Face::default(); TRAY];
     // each part has a line of its own, so there are fewer parts than bytes
     for number in 1..MOST_BYTES {
         let Some(counts) = reader.next_part(&mut points, &mut faces)? else {

@@ -11,6 +11,7 @@ use geometry::{Facet, Row};
 pub fn solid_rows(facets: &[Facet], side: u8, cells: &mut [bool])
     ensures { RowsOf facets.now side (side * side) cells.new }
 {
+    // `as` and by places: with `from`, or over chunks of the cells, the proof of what each row holds did not close
     let n = side as usize;
     for number in 0..n * n {
         let start = number * n;

@@ -1,4 +1,4 @@
-//! The rows of a part: which cells of a row a list of triangles makes solid, and the runs of solid cells.
+//! Rows of cells: which cells of a row, or of all rows of a box, a list of triangles makes solid, and the runs of solid cells.
 #![tactic(auto)]
 
 ghost use Rattle.std.specs.Prelude.{◌≡◌, ℕ, ◌+◌, ◌<◌, ◌≤◌, Bool, true, false, not, List, length, nat_eq, slice_index_or, MatchOption};

@@ -23,7 +23,7 @@ pub enum Skin {
 }
 
 /// The skin of one triangle.
-#[derive(Clone, Copy)]
+#[derive(Clone, Copy, Debug, PartialEq, Eq)]
 struct Coat {
     skin: Skin,
     facet: Facet,
@@ -42,7 +42,9 @@ impl Coat {
     }
 }
 
-// `HoldsAll` is asked in each function that marks: a struct with the board and this fact was tried, and then each owes that the loan stays.
+// The board goes through these functions with the fact that it holds all drawings, `HoldsAll`. A struct of the two was tried, and is no
+// plainer: each method then owes besides that the board is still the one that was lent. That a span ends in the box is asked of the spans
+// that each function gets, and of the board.
 
 /// Marks one cell, if it is one of the skin.
 fn mark_cell(board: &mut Dense, coat: &Coat, cell: Cell)
@@ -52,6 +54,7 @@ fn mark_cell(board: &mut Dense, coat: &Coat, cell: Cell)
 {
     let Cell { x, y, z } = cell;
     let is_in_skin = coat.has(geometry::Cell {
+        // by `as`: a cell of the box has numbers below 64
         x: x as u8,
         y: y as u8,
         z: z as u8,

@@ -20,7 +20,7 @@ use places::{cell_count, count_upto, turn_run};
 
 /// A block of N × N × N cells over any number of lent places. It keeps the change places of its drawing: the numbers i < N × N × N whose
 /// cell differs from cell i - 1, where the cell before 0 counts as empty. A drawing fits if it has at most as many as there are places lent.
-#[derive(Drop)]
+#[derive(Debug, Drop)]
 pub struct Spans<'a> {
     side: BoxSide,
     list: Toggles<'a, u32>,

@@ -31,7 +31,10 @@ pub(crate) fn count_upto(places: &[u32], k: u32) -> usize
     }
 }
 
+// That the places rise is asked in each contract: a toggle list is made for keys of any order, so its type cannot hold it.
+
 /// Toggles `first` and then `second`, where that can be done: `first` makes room, or there is room for both.
+// It answers what the list answers, and its clause says that this is never an error here: so callers can hand it on.
 #[tactic(auto, using(toggles::proofs::Sizes::within_room))]
 fn toggle_in_turn(list: &mut Toggles<u32>, first: u32, second: u32) -> Result<(), Full>
     requires rising { IsStrictlyIncreasing (present list.old) }

@@ -7,10 +7,7 @@ fn point(x: i32, y: i32, z: i32) -> Point {
 }
 
 fn shelf() -> [Side; 12] {
-    [Side {
-        low: point(0, 0, 0),
-        high: point(0, 0, 0),
-    }; 12]
+    [Side::default(); 12]
 }
 
 fn tetrahedron() -> [Triangle; 4] {

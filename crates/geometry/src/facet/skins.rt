@@ -11,6 +11,9 @@ use crate::bounded::make::HALF_WIDTH;
 use crate::bounded::{Bounded, Coordinate};
 use crate::mesh::Cell;
 
+// A side is given by its two ends, here and in `side_counts`: each test wants the points themselves, and a type for a side would be taken
+// apart in each.
+
 impl View {
     /// Whether `q` is at the inner side of the line from `u` to `v`, or on it.
     fn is_within_side(self, u: Bounded, v: Bounded, q: Bounded) -> bool

@@ -65,6 +65,8 @@ impl<'a> Reader<'a> {
         Ok((x, y, z))
     }
 
+    // Two trays, and not a struct of both: a caller lends each by itself, and the contract tells of each what it holds.
+
     /// Reads the points and faces of a part into the trays. Where it is refused, this reader may stand anywhere.
     fn read_body(&mut self, points: &mut [Point], faces: &mut [Face]) -> Result<Counts, Refusal>
         ensures read { BodyRead (body_of self.old points.old faces.old) (stand_of self.new) result }
@@ -72,10 +74,7 @@ impl<'a> Reader<'a> {
         ensures faces { faces.new ≡ written (body_of self.old points.old faces.old).faces faces.old }
         ensures room { IfOk result (FitsTrays points.new faces.new) }
     {
-        let mut counts = Counts {
-            points: 0,
-            faces: 0,
-        };
+        let mut counts = Counts::default();
         while let Some(line) = self.next_entry() {
             match line {
                 Line::Point(words) => {

@@ -3,10 +3,10 @@
 ghost use Rattle.std.specs.Prelude.{◌≡◌, List, map, length, IfOk, OnErr, vec_items};
 ghost use Rattle.geometry.specs.Read.{triangle_of};
 ghost use Rattle.report.specs.Parts.{Collected, Closes, IsOutOfMemory, Means};
-ghost use Rattle.report.specs.declared.verdict.NotKept.TheVariants.{Flawed, OutOfMemory};
+ghost use Rattle.report.specs.declared.part.NotKept.TheVariants.{Flawed, OutOfMemory};
 
 use closing::check_sides;
-use geometry::{Facet, Point, Side, Triangle};
+use geometry::{Facet, Side, Triangle};
 use shapes::Shape;
 use std::alloc::{AllocError, AllocFailed, Global};
 use std::error::Error;
@@ -84,6 +84,7 @@ fn collect<S: Shape>(heap: Global, shape: &S) -> Result<Vec<Facet>, NotKept>
     ensures { Collected vec_items (S.entries shape.now) result }
 {
     let mut facets = Vec::new(heap);
+    // by number, since a shape answers an entry by its number, which a flaw names
     for i in 0..shape.count() {
         let triangle = shape.entry(i).ok_or(Flaw::Hole(i + 1))?;
         let facet = Facet::new(triangle).ok_or(Flaw::Wild(i + 1))?;
@@ -104,16 +105,8 @@ fn check_closed(heap: Global, facets: &[Facet]) -> Result<(), NotKept>
     ensures { Closes (map triangle_of facets.now) result }
 {
     let triangles = triangles_of(heap, facets)?;
-    let origin = Point { x: 0, y: 0, z: 0 };
-    let blank = Side {
-        low: origin,
-        high: origin,
-    };
-    let mut shelf = vec![in heap; blank; 3 * triangles.len()]?;
-    match check_sides(triangles.as_slice(), shelf.as_mut_slice()) {
-        Ok(()) => Ok(()),
-        Err(_) => Err(NotKept::Flawed(Flaw::Open)),
-    }
+    let mut shelf = vec![in heap; Side::default(); 3 * triangles.len()]?;
+    check_sides(triangles.as_slice(), shelf.as_mut_slice()).map_err(|_| NotKept::Flawed(Flaw::Open))
 }
 
 /// Adds the triangles of a part to `kept` where its sides close; else says what is wrong with it. Where it fails, `kept` stays.

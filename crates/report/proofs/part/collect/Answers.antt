@@ -3,11 +3,11 @@ use Rattle.std.specs.Option.{option_map}
 use Rattle.std.proofs.lemmas.Result.{err_from_is_err_and}
 use Rattle.geometry.specs.declared.facet.Facet.{Facet}
 use Rattle.geometry.specs.Read.{triangle_of}
-use Rattle.report.specs.declared.verdict.NotKept.{NotKept}
-use Rattle.report.specs.declared.verdict.NotKept.TheVariants.{Flawed, OutOfMemory}
+use Rattle.report.specs.declared.part.NotKept.{NotKept}
+use Rattle.report.specs.declared.part.NotKept.TheVariants.{Flawed, OutOfMemory}
 use Rattle.report.specs.Parts.{Collected, IsOutOfMemory, Named}
 use Rattle.report.proofs.EntryLaws.{named_more, hole_is, wild_is, flaw_is}
-use Rattle.report.proofs.verdict.collect.Goals as goal
+use Rattle.report.proofs.part.collect.Goals as goal
 
 pub returns-in_err-triangle : goal.returns-in_err-triangle
 returns-in_err-triangle g c =
