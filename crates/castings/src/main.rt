@@ -32,7 +32,7 @@ fn show<S: Shape>(rt: &HostRuntime, name: &str, casting: &S) -> anyhow::Result<(
     Ok(())
 }
 
-// As in the tests of toggle lists, which share no crate of tests with these.
+// As in the tests of toggle lists: one helper for both would be a public function of a library, with a contract for a line.
 fn point(x: i32, y: i32, z: i32) -> Point {
     Point { x, y, z }
 }

@@ -112,7 +112,7 @@ pub fn turn_layers(side: BoxSide, cells: &mut [u8], run: Run) -> Result<bool, Re
 mod tests {
     use super::*;
 
-    // The cells from `start` up to, and without, `end` of the row (y, z).
+    // The cells from `start` up to, and without, `end` of the row (y, z); as in the tests of the octree, for the reason told there.
     fn run(y: usize, z: usize, start: usize, end: usize) -> Run {
         Run { y, z, start, end }
     }

@@ -84,7 +84,8 @@ pub(crate) fn blended(kinds: [Kind; 8]) -> Kind
 
 /// Whether a cell of a region is solid.
 // `look`, `plan` and `turn` call themselves, the level falling, as the table in docs/DECISIONS.md names them. A region comes with its level
-// beside it, and with the store that has its groups: children are stored without their levels.
+// beside it, and with the store that has its groups: children are stored without their levels. `Readable` is said of the three
+// together, so it is no invariant of one.
 #[tactic(auto, using(crate::proofs::Reading::readable_there, crate::proofs::Reading::readable_part, crate::proofs::Reading::split_above, crate::proofs::Trees::leaf_shows))]
 pub(crate) fn look(store: &Store<'_>, region: Child, level: Level, cell: Cell) -> bool
     requires { Readable store.now.groups.now level.number region }

@@ -11,7 +11,7 @@ mod tests {
         Cell { x, y, z }
     }
 
-    // As in the tests of a layer, which share no crate of tests with these.
+    // As in the tests of a layer: one helper for both would be a public function of a library, with a contract for a line.
     fn run(y: usize, z: usize, start: usize, end: usize) -> Run {
         Run { y, z, start, end }
     }

@@ -12,6 +12,7 @@ pub fn solid_rows(facets: &[Facet], side: u8, cells: &mut [bool])
     ensures { RowsOf facets.now side (side * side) cells.new }
 {
     // `as` and by places: with `from`, or over chunks of the cells, the proof of what each row holds did not close
+    // the row of a number is told here and in flips: a function of both would owe for each why its numbers fit, and be no shorter
     let n = side as usize;
     for number in 0..n * n {
         let start = number * n;

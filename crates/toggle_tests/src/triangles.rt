@@ -2,6 +2,7 @@
 use closing::{Leak, check_sides};
 use geometry::{Point, Side, Triangle};
 
+// As in castings, for the reason told there.
 fn point(x: i32, y: i32, z: i32) -> Point {
     Point { x, y, z }
 }
