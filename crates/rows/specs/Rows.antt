@@ -16,6 +16,11 @@ RowOf fs y z cells = (x : ℕ) → x < length cells → slice_index_or cells x f
 abbrev pub RowsOf : List Facet → ℕ → ℕ → List Bool → Type 0
 RowsOf fs n m cells = (k : ℕ) → k < m → k * n + n ≤ length cells → RowOf fs (k % n) (k / n) (take n (drop (k * n) cells))
 
+-- the cells behind the first m rows are as they were, and so are those that are too few for one row more
+pub record SameBehind (n m : ℕ) (old new : List Bool) : Type 0 where
+  pub behind : (k : ℕ) → m ≤ k → drop (k * n) new ≡ drop (k * n) old
+  pub too_few : (k : ℕ) → length old < k * n + n → drop (k * n) new ≡ drop (k * n) old
+
 -- ---- runs
 
 -- the cells from a up to, and without, b are all v
