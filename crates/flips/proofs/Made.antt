@@ -1,8 +1,8 @@
 -- Flips, made one after the other.
-use Rattle.std.proofs.Common.{◌≡◌, ℕ, zero, suc, ◌+◌, ◌<◌, Bool, true, false, cond, ◌&&◌, List, [], ◌∷◌, ◌++◌, length, get_or, take, drop, is_ok, Some, None, Ok, Err, Result, sym, refl, ap, ◌∙◌, subst, arith}
+use Rattle.std.proofs.Common.{◌≡◌, ℕ, zero, suc, ◌+◌, ◌<◌, Bool, true, false, cond, ◌&&◌, List, [], ◌∷◌, ◌++◌, length, get_or, take, drop, is_ok, Some, None, Ok, Err, Result, sym, refl, ap, ◌∙◌, subst, ⊎_elim, arith}
 use Rattle.std.proofs.lemmas.List.{take_more, drop_more, take-append-drop}
 use Rattle.std.proofs.lemmas.List.Elements.{All-get_or}
-use Rattle.std.proofs.lemmas.Bool.{cond-true, cond-false, and_parts, and_from, and_left, and_right}
+use Rattle.std.proofs.lemmas.Bool.{cond-true, cond-false, true≢false, and_parts, and_cases, and_from, and_left, and_right}
 use Rattle.refusals.specs.declared.Refusal.{Refusal}
 use Rattle.refusals.specs.declared.Refusal.TheVariants.{NoSand}
 use Rattle.block.specs.declared.cells.Run.{Run}
@@ -11,7 +11,7 @@ use Rattle.block.proofs.Turns.{turned_twice}
 use Rattle.flips.specs.Drawn.{drawn, all_fit, InBox}
 
 -- a flip made twice
-changed_twice : (n : ℕ) (d : ℕ → Bool) (w : Run) → changed n (changed n d w) w ≡ d
+pub changed_twice : (n : ℕ) (d : ℕ → Bool) (w : Run) → changed n (changed n d w) w ≡ d
 changed_twice n d w = turned_twice d (number n w.start w.y w.z) (number n w.end w.y w.z)
 
 pub drawn_append : (n : ℕ) (d : ℕ → Bool) (vs ws : List Run) → drawn n d (vs ++ ws) ≡ drawn n (drawn n d vs) ws
@@ -28,7 +28,7 @@ module _ (n : ℕ) (F : (ℕ → Bool) → Bool) where
       and_assoc false b c = refl
 
   -- where every drawing on the way fits, so does each of them
-  fits_after : (d : ℕ → Bool) (ws : List Run) (i : ℕ) → F d ≡ true → all_fit n F d ws ≡ true → F (drawn n d (take i ws)) ≡ true
+  pub fits_after : (d : ℕ → Bool) (ws : List Run) (i : ℕ) → F d ≡ true → all_fit n F d ws ≡ true → F (drawn n d (take i ws)) ≡ true
   fits_after d ws zero e h = e
   fits_after d [] (suc i) e h = e
   fits_after d (w ∷ ws) (suc i) e h = let p = and_parts (F (changed n d w)) _ h in fits_after (changed n d w) ws i p.0 p.1
@@ -36,6 +36,20 @@ module _ (n : ℕ) (F : (ℕ → Bool) → Bool) where
   pub fits_end : (d : ℕ → Bool) (ws : List Run) → F d ≡ true → all_fit n F d ws ≡ true → F (drawn n d ws) ≡ true
   fits_end d [] e h = e
   fits_end d (w ∷ ws) e h = let p = and_parts (F (changed n d w)) _ h in fits_end (changed n d w) ws p.0 p.1
+
+  -- where it is not so, some drawing on the way does not fit
+  pub some_not : (d : ℕ → Bool) (ws : List Run) → all_fit n F d ws ≡ false → (i : ℕ) × ((i < length ws) × (F (drawn n d (take (i + 1) ws)) ≡ false))
+  some_not d [] e = absurd (true≢false e)
+  some_not d (w ∷ ws) e =
+      ⊎_elim
+      (λ (here : F (changed n d w) ≡ false). (0, (omega arith, here)))
+      (λ (later : all_fit n F (changed n d w) ws ≡ false).
+      let r = some_not (changed n d w) ws later in
+      (suc r.0, (omega (arith, r.1.0), ap (λ k. F (drawn n d (take k (w ∷ ws)))) (next r.0) ∙ r.1.1)))
+      (and_cases (F (changed n d w)) _ e)
+    where
+      next : (i : ℕ) → suc i + 1 ≡ suc (i + 1)
+      next i = omega arith
 
 pub fit_moved : {m n : ℕ} {G F : (ℕ → Bool) → Bool} (d : ℕ → Bool) (ws : List Run) → m ≡ n → G ≡ F → all_fit m G d ws ≡ all_fit n F d ws
 fit_moved {m} {n} {G} {F} d ws p q = ap (λ k. all_fit k G d ws) p ∙ ap (λ (K : (ℕ → Bool) → Bool). all_fit n K d ws) q

@@ -9,6 +9,7 @@ ghost use Rattle.flips.specs.Drawn.{drawn, all_fit, flips_answer, ChangedWhere};
 
 use crate::list::{make_flips, undo_flips};
 use crate::row::{row_count, row_flips};
+use arrayvec::ArrayVec;
 use block::Block;
 use geometry::Row;
 use refusals::Refusal;
@@ -34,8 +35,9 @@ fn undo_rows<B: Block, S: RowSource>(block: &mut B, source: &S, count: usize)
     ensures back { (d : ℕ → Bool) → B.fits block.old d ≡ true → all_fit (B.edge block.old) (B.fits block.old) d (first_rows (B.edge block.old) (S.solid source.now) count) ≡ true → B.drawing block.old ≡ drawn (B.edge block.old) d (first_rows (B.edge block.old) (S.solid source.now) count) → B.drawing block.new ≡ d }
 {
     let side = block.side();
+    let mut flips = ArrayVec::new();
     for i in (0..count).rev() {
-        let flips = row_flips(source, side, i);
+        row_flips(source, side, i, &mut flips);
         undo_flips(block, flips.as_slice());
     }
 }
@@ -52,9 +54,10 @@ pub fn flip_rows<B: Block, S: RowSource>(block: &mut B, source: &S) -> Result<us
     ensures longest { (y z : ℕ) → LongestRuns (B.edge block.old) (λ x. S.solid source.now x y z) (row_runs (B.edge block.old) (S.solid source.now) y z) }
 {
     let side = block.side();
+    let mut flips = ArrayVec::new();
     let mut count = 0;
     for i in 0..row_count(side) {
-        let flips = row_flips(source, side, i);
+        row_flips(source, side, i, &mut flips);
         if let Err(why) = make_flips(block, flips.as_slice()) {
             undo_rows(block, source, i);
             return Err(why);

@@ -34,12 +34,13 @@ fn row_at(side: BoxSide, number: usize) -> Row
     }
 }
 
-/// The longest runs of solid cells of a row as flips, by rising x.
-fn cut_runs(cells: &[bool], row: Row) -> ArrayVec<Run, 64>
+/// Makes `flips` hold the longest runs of solid cells of a row, by rising x, and nothing else.
+// The list is made once and filled again for each row: to make one takes time for all of its 64 places, and so does to hand one on.
+fn cut_runs(cells: &[bool], row: Row, flips: &mut ArrayVec<Run, 64>)
     requires { length cells.now ≤ 64 }
-    ensures { result.items ≡ map (flip_at row.y row.z) (told_runs cells.now) }
+    ensures { flips.new.items ≡ map (flip_at row.y row.z) (told_runs cells.now) }
 {
-    let mut flips = ArrayVec::new();
+    flips.clear();
     for run in runs(cells) {
         flips.push(Run {
             y: usize::from(row.y),
@@ -48,17 +49,21 @@ fn cut_runs(cells: &[bool], row: Row) -> ArrayVec<Run, 64>
             end: run.end,
         });
     }
-    flips
 }
 
-/// The flips of the row of a number.
-pub fn row_flips<S: RowSource>(source: &S, side: BoxSide, number: usize) -> ArrayVec<Run, 64>
+/// Makes `flips` hold the flips of the row of a number, and nothing else.
+pub fn row_flips<S: RowSource>(
+    source: &S,
+    side: BoxSide,
+    number: usize,
+    flips: &mut ArrayVec<Run, 64>,
+)
     requires { number < cells_of side * cells_of side }
-    ensures { result.items ≡ row_flips (cells_of side) (S.solid source.now) (number % cells_of side) (number / cells_of side) }
+    ensures { flips.new.items ≡ row_flips (cells_of side) (S.solid source.now) (number % cells_of side) (number / cells_of side) }
 {
     let row = row_at(side, number);
     let mut whole = [false; 64];
     let cells = &mut whole[0..side.cells()];
     source.row(row, cells);
-    cut_runs(cells, row)
+    cut_runs(cells, row, flips);
 }

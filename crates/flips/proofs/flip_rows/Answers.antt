@@ -33,7 +33,7 @@ make_flips-requires-clause-in_box g c =
     let in_box : i < n * n = subst (λ (m : ℕ). i < m) (c.row_count-i-end.ensures ∙ ap (λ m. m * m) c.side-side.ensures) c.loop-i-test.true in
     let side = c.side-side.ensures in
     let same = c.as_slice.ensures.value in
-    let row = c.row_flips-flips.ensures in
+    let row = c.row_flips.ensures in
     let cut : c.as_slice.result.now ≡ numbered n solid i = cc in
     cut_in_box n solid i c.as_slice.result.now cut c.loop-i.invariant.kept.same_side in_box
 
@@ -47,7 +47,7 @@ loop-i-preserved g c =
     let told = c.make_flips.ensures in
     let side = c.side-side.ensures in
     let same = c.as_slice.ensures.value in
-    let row = c.row_flips-flips.ensures in
+    let row = c.row_flips.ensures in
     let cut : ws ≡ numbered n solid i = cc in
     let done = ap is_ok c.in_default.is in
     let made = row_made n solid (g.B.Block.fits c.args.block.now) (g.B.Block.drawing c.args.block.now) i ws cut inv.kept.same_side inv.kept.same_fits
@@ -79,7 +79,7 @@ returns-in-Err-clause-answer g c =
     let in_box : i < n * n = subst (λ (m : ℕ). i < m) (c.row_count-i-end.ensures ∙ ap (λ m. m * m) c.side-side.ensures) c.loop-i-test.true in
     let side = c.side-side.ensures in
     let same = c.as_slice.ensures.value in
-    let row = c.row_flips-flips.ensures in
+    let row = c.row_flips.ensures in
     let cut : ws ≡ numbered n solid i = cc in
     let off : all_fit (g.B.Block.edge c.loop-i.block) (g.B.Block.fits c.loop-i.block) (g.B.Block.drawing c.loop-i.block) ws ≡ false = sym (done_if c.make_flips.result _ told) ∙ ap is_ok c.in-Err.is in
     let full : Some c.in-Err.why ≡ Some NoSand = sym (ap refusal_of c.in-Err.is) ∙ told ∙ cond-false (all_fit (g.B.Block.edge c.loop-i.block) (g.B.Block.fits c.loop-i.block) (g.B.Block.drawing c.loop-i.block) ws) None (Some NoSand) off in

@@ -14,7 +14,7 @@ undo_flips-requires-clause-in_box g c =
     let in_box : i < n * n = omega arith in
     let side = c.side-side.ensures in
     let same = c.as_slice.ensures.value in
-    let told = c.row_flips-flips.ensures in
+    let told = c.row_flips.ensures in
     let cut : c.as_slice.result.now ≡ numbered n solid i = cc in
     cut_in_box n solid i c.as_slice.result.now cut c.loop-i.invariant.kept.same_side in_box
 
@@ -29,7 +29,7 @@ loop-i-preserved g c =
     let low : i + 1 ≤ c.args.count = omega arith in
     let side = c.side-side.ensures in
     let same = c.as_slice.ensures.value in
-    let told = c.row_flips-flips.ensures in
+    let told = c.row_flips.ensures in
     let cut : c.as_slice.result.now ≡ numbered n solid i = cc in
     record {
       kept = kept_on g.B.Block.ties_on c.args.block.now c.loop-i.block c.undo_flips.new.block inv.kept undone.kept;
