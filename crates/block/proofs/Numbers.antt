@@ -23,3 +23,10 @@ pub number_lt : (n x y z : ℕ) → x < n → y < n → z < n → number n x y z
 number_lt n x y z hx hy hz =
     let a : x + 1 ≤ n = omega arith in
     omega (arith, number_le n (x + 1) y z a hy hz)
+
+-- where the tests hold, the cell lies in the box, and the run has a cell and ends in the box
+pub cell_within : (n x y z : ℕ) → in_box n x y z ≡ true → number n x y z < n * n * n
+cell_within n x y z e = let p = in_box_true n x y z e in number_lt n x y z p.0 p.1 p.2
+
+pub run_within : (n : ℕ) (w : Run) → in_row n w ≡ true → (number n w.start w.y w.z < number n w.end w.y w.z) × (number n w.end w.y w.z ≤ n * n * n)
+run_within n w e = let p = in_row_true n w e in (omega arith, number_le n w.end w.y w.z p.3 p.0 p.1)

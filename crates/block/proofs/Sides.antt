@@ -20,6 +20,9 @@ side_le = by_side (λ n. n ≤ 64) (lit≤ tt) (lit≤ tt) (lit≤ tt) (lit≤ t
 pub cube_some : (n : ℕ) → is_side n ≡ true → 0 < n * n * n
 cube_some = by_side (λ n. 0 < n * n * n) (lit< tt) (lit< tt) (lit< tt) (lit< tt) (lit< tt) (lit< tt)
 
+pub cube_le : (n : ℕ) → is_side n ≡ true → n * n * n ≤ 262144
+cube_le = by_side (λ n. n * n * n ≤ 262144) (lit≤ tt) (lit≤ tt) (lit≤ tt) (lit≤ tt) (lit≤ tt) (lit≤ tt)
+
 -- a box has a whole number of eights of cells
 pub cube_eights : (n : ℕ) → is_side n ≡ true → 8 * (n * n * n / 8) ≡ n * n * n
 cube_eights = by_side (λ n. 8 * (n * n * n / 8) ≡ n * n * n) refl refl refl refl refl refl

@@ -14,6 +14,11 @@ pub turned_in : (d : ℕ → Bool) (lo hi k : ℕ) → lo ≤ k → k < hi → t
 unfolding turned
 turned_in d lo hi k a b = grind (arith, nat_tests)
 
+-- a cell before the run
+pub turned_low : (d : ℕ → Bool) (lo hi k : ℕ) → k < lo → turned d lo hi k ≡ d k
+unfolding turned
+turned_low d lo hi k a = grind (arith, nat_tests)
+
 -- a cell behind the run
 pub turned_high : (d : ℕ → Bool) (lo hi k : ℕ) → hi ≤ k → turned d lo hi k ≡ d k
 unfolding turned

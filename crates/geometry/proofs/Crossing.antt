@@ -16,12 +16,16 @@ use Rattle.geometry.specs.Numbers.{◌·◌, Floor}
 use Rattle.geometry.specs.Read.{first_of, second_of, flat_edge}
 use Rattle.geometry.proofs.Signs.{inner_up, inner_down, size_is}
 
--- the edge of points is that of their coordinates, seen along an axis
+-- the edge of points is that of their coordinates, on any two of these
+pub edge_is : (a b : Point → ℤ) (u v q : Point) → flat_edge (a u) (b u) (a v) (b v) (a q) (b q) ≡ edge a b u v q
+unfolding flat_edge edge ◌·◌
+edge_is a b u v q = refl
+
+-- and so it is along an axis
 pub edge_along : (axis : Axis) (u v q : Point)
     → edge (first_of axis) (second_of axis) u v q
     ≡ flat_edge (first_of axis u) (second_of axis u) (first_of axis v) (second_of axis v) (first_of axis q) (second_of axis q)
-unfolding flat_edge edge ◌·◌
-edge_along axis u v q = refl
+edge_along axis u v q = sym (edge_is (first_of axis) (second_of axis) u v q)
 
 -- ---- a side
 

@@ -25,13 +25,13 @@ inner_down way v h = rw (sign_down way h) (one v)
     one v = grind (arith, ints)
 
 -- a number times its sign is its size
-size_up : (a : ℤ) → pos 0 ≤ℤ a → a ≡ size a
+pub size_up : (a : ℤ) → pos 0 ≤ℤ a → a ≡ size a
 size_up a h = one a ∙ ap (λ s. s *ℤ a) (sym (sign_up a h))
   where
     one : (a : ℤ) → a ≡ pos 1 *ℤ a
     one a = omega (arith, ints)
 
-size_down : (a : ℤ) → a <ℤ pos 0 → pos 0 -ℤ a ≡ size a
+pub size_down : (a : ℤ) → a <ℤ pos 0 → pos 0 -ℤ a ≡ size a
 size_down a h = one a ∙ ap (λ s. s *ℤ a) (sym (sign_down a h))
   where
     one : (a : ℤ) → pos 0 -ℤ a ≡ negsuc 0 *ℤ a
@@ -46,12 +46,12 @@ size_is a = by_lt_z a (pos 0) (λ h. down a h ∙ size_down a h) (λ h. up a h �
     up : (a : ℤ) → pos 0 ≤ℤ a → pos (nat_abs a) ≡ a
     up a h = omega (arith, ints)
 
+pub minus : (a : ℤ) → pos 0 -ℤ a ≡ negsuc 0 *ℤ a
+minus a = omega (arith, ints)
+
 -- a negative sign turns a number
 pub turned : (n v : ℤ) → n <ℤ pos 0 → sign n *ℤ v ≡ pos 0 -ℤ v
-turned n v h = rw (sign_down n h) (minus v)
-  where
-    minus : (v : ℤ) → negsuc 0 *ℤ v ≡ pos 0 -ℤ v
-    minus v = omega (arith, ints)
+turned n v h = rw (sign_down n h) (sym (minus v))
 
 -- ---- the least and the greatest of three
 

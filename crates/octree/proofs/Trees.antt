@@ -1,7 +1,8 @@
 -- What the groups hold.
-use Rattle.std.proofs.Common.{◌≡◌, ℕ, zero, suc, ◌+◌, ◌<◌, ◌≤◌, Bool, true, false, cond, not, ◌||◌, eqb, List, get_or, refl, ap, ◌∙◌, arith}
+use Rattle.std.proofs.Common.{◌≡◌, ℕ, zero, suc, ◌+◌, ◌<◌, ◌≤◌, Bool, true, false, cond, not, ◌||◌, eqb, List, get_or, refl, ap, ◌∙◌, ⊎_elim, arith}
 use mathlib.Core.Path.{fun_ext}
-use Rattle.std.proofs.lemmas.Bool.{cond-true, eq-eqb}
+use Rattle.std.proofs.lemmas.List.{get_or_past}
+use Rattle.std.proofs.lemmas.Bool.{cond-true, eq-eqb, cases_lt}
 use Rattle.block.specs.declared.cells.Cell.{Cell}
 use Rattle.octree.specs.declared.cells.Child.{Child}
 use Rattle.octree.specs.declared.cells.Child.TheVariants.{Empty, Solid, Split}
@@ -16,9 +17,13 @@ use Rattle.octree.proofs.NeedLaws.{Parts, need_split, mixed_most, mixed_alike}
 
 -- ---- children
 
+-- a child of an empty region is empty, also where there is none of that number
+pub child_empty : (gs : List Group) (k : ℕ) → child_at gs Empty k ≡ Empty
+child_empty gs k = ⊎_elim (eight (λ j. child_at gs Empty j ≡ Empty) refl refl refl refl refl refl refl refl k) (get_or_past (children_of gs Empty) k Empty) (cases_lt k 8)
+
 -- each child of a region with no group is that region again
 pub leaf_child : (gs : List Group) (r : Child) (k : ℕ) → has_group r ≡ 0 → k < 8 → child_at gs r k ≡ r
-leaf_child gs Empty k z l = eight (λ j. child_at gs Empty j ≡ Empty) refl refl refl refl refl refl refl refl k l
+leaf_child gs Empty k z l = child_empty gs k
 leaf_child gs Solid k z l = eight (λ j. child_at gs Solid j ≡ Solid) refl refl refl refl refl refl refl refl k l
 leaf_child gs (Split g) k z l = absurd (omega arith)
 

@@ -32,6 +32,17 @@ use Rattle.octree.proofs.Boxes.{box_width, shown_cell, shown_need, changed_need,
 few_needed : (n : ℕ) → is_side n ≡ true → most (level_of n) ≤ 37449
 few_needed = by_side (λ n. most (level_of n) ≤ 37449) (lit≤ tt) (lit≤ tt) (lit≤ tt) (lit≤ tt) (lit≤ tt) (lit≤ tt)
 
+-- a run of the box lies in the region that the box is
+pub row_lies : (n : ℕ) (w : Run) → is_side n ≡ true → in_row n w ≡ true → Lies (level_of n) w
+row_lies n w s h =
+    let p = in_row_true n w h in
+    let e = box_width n s in
+    record { short = omega (arith, e, p.3); in_y = omega (arith, e, p.0); in_z = omega (arith, e, p.1) }
+
+-- a cell of the box is shown as it is solid in that region
+pub look_shown : (n : ℕ) (gs : List Group) (r : Child) (c : Cell) → is_side n ≡ true → in_box n c.x c.y c.z ≡ true → solid_at gs (level_of n) r c ≡ shown n gs r (number n c.x c.y c.z)
+look_shown n gs r c s h = sym (shown_cell n s gs r c (in_box_true n c.x c.y c.z h))
+
 module _ (o : Octree) (W : Sound o) where
   abbrev n : ℕ
   n = edge_of o
@@ -57,26 +68,20 @@ module _ (o : Octree) (W : Sound o) where
     there = λ i l. omega (arith, W.once i, one_le st.mark i (omega (arith, W.counted.marked, l)));
   }
 
-  lies : (w : Run) → in_row n w ≡ true → Lies (level_of n) w
-  lies w h =
-      let p = in_row_true n w h in
-      let e = box_width n a in
-      record { short = omega (arith, e, p.3); in_y = omega (arith, e, p.0); in_z = omega (arith, e, p.1) }
-
   -- the same by what the code has of the box's level
   module _ (lv : ℕ) (el : lv ≡ level_of n) where
     pub whole_readable : Readable gs lv r
     whole_readable = subst (λ m. Readable gs m r) (sym el) readable
 
     pub whole_look : (c : Cell) → in_box n c.x c.y c.z ≡ true → solid_at gs lv r c ≡ shown n gs r (number n c.x c.y c.z)
-    whole_look c h = ap (λ m. solid_at gs m r c) el ∙ sym (shown_cell n a gs r c (in_box_true n c.x c.y c.z h))
+    whole_look c h = ap (λ m. solid_at gs m r c) el ∙ look_shown n gs r c a h
 
     module _ (w : Run) (h : in_row n w ≡ true) where
       abbrev after : ℕ → Bool
       after = changed n (shown n gs r) w
 
       need_is : needed n after ≡ need_of lv (flipped w (solid_at gs lv r)) origin
-      need_is = changed_need n a gs r w (lies w h) ∙ ap (λ m. need_of m (flipped w (solid_at gs m r)) origin) (sym el)
+      need_is = changed_need n a gs r w (row_lies n w a h) ∙ ap (λ m. need_of m (flipped w (solid_at gs m r)) origin) (sym el)
 
       need_few : needed n after ≤ 37449
       need_few = omega (arith, need_is, need_most lv (flipped w (solid_at gs lv r)) origin, ap most el, few_needed n a)
@@ -88,7 +93,7 @@ module _ (o : Octree) (W : Sound o) where
       own_count = ap (λ m. group_count gs m r + st.freed) el ∙ W.count
 
       pub whole_lies : Lies lv w
-      whole_lies = subst (λ m. Lies m w) (sym el) (lies w h)
+      whole_lies = subst (λ m. Lies m w) (sym el) (row_lies n w a h)
 
       -- the drawing fits with the run changed where the groups that it needs more are there
       pub whole_takes : (q : Change) → Planned gs lv r w q → leb (q.after - q.before) (left st) ≡ room n (length gs) after
@@ -128,7 +133,7 @@ module _ (o : Octree) (W : Sound o) where
         whole_kept = record { still_sound = sound; same_loans = M.lent; same_side = refl; same_fits = ap (room n) M.long }
 
         pub whole_drawn : drawing_of (record o { store = st'; root = r' }) ≡ after
-        whole_drawn = changed_shown n a gs r w (lies w h) gs' r' moved.drawn
+        whole_drawn = changed_shown n a gs r w (row_lies n w a h) gs' r' moved.drawn
 
 -- ---- a new octree
 

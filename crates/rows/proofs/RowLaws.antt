@@ -41,12 +41,12 @@ module _ (was cells : List Bool) (i : ℕ) (count : Bool) (long : length cells �
   abbrev next : Bool
   next = not (beq count (get_or cells i false))
 
-  next_counted : next ≡ odd_first (i + 1) was
+  pub next_counted : next ≡ odd_first (i + 1) was
   next_counted =
       xor_of count (get_or cells i false) ∙ ap (λ b. b ⊻ get_or cells i false) counted ∙ ap (λ b. odd_first i was ⊻ b) (left i (omega arith))
       ∙ sym (odd_more (λ b. b) was i false h)
 
-  next_done : (x : ℕ) → x < i + 1 → get_or (set cells i next) x false ≡ odd_first (x + 1) was
+  pub next_done : (x : ℕ) → x < i + 1 → get_or (set cells i next) x false ≡ odd_first (x + 1) was
   next_done x k =
       ⊎_elim
       (λ (e : eqb x i ≡ true). let s = eqb-true x i e in
@@ -55,7 +55,7 @@ module _ (was cells : List Bool) (i : ℕ) (count : Bool) (long : length cells �
       get_or-set_other cells i x next false s ∙ done x (omega arith))
       (cases_Bool (eqb x i))
 
-  next_left : (x : ℕ) → i + 1 ≤ x → get_or (set cells i next) x false ≡ get_or was x false
+  pub next_left : (x : ℕ) → i + 1 ≤ x → get_or (set cells i next) x false ≡ get_or was x false
   next_left x k = get_or-set_other cells i x next false (λ e. omega arith) ∙ left x (omega arith)
 
   -- one cell more is counted
