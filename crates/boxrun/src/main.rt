@@ -7,9 +7,16 @@ use std::io::Read;
 /// The input, or its first bytes where it is longer than a text may be.
 fn read_input(rt: &HostRuntime) -> anyhow::Result<Vec<u8>> {
     let mut text = Vec::new(rt.alloc());
-    rt.stdin()
-        .take(MOST_BYTES as u64 + 1)
-        .read_to_end(&mut text)?;
+    let mut input = rt.stdin();
+    // A chunk at a time, and not `read_to_end`, which makes room before it reads and tells want of memory in other words than the rest does.
+    while text.len() <= MOST_BYTES {
+        let mut chunk = [0u8; 4096];
+        let count = input.read(&mut chunk)?;
+        if count == 0 {
+            break;
+        }
+        text.extend_from_slice(&chunk[0..count])?;
+    }
     Ok(text)
 }
 

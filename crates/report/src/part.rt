@@ -36,7 +36,7 @@ impl fmt::Display for Flaw {
 impl Error for Flaw {}
 
 /// Why no triangles were kept.
-#[derive(Debug, Drop)]
+#[derive(Clone, Copy, Debug, PartialEq, Eq)]
 pub enum NotKept {
     /// The part has a flaw.
     Flawed(Flaw),
