@@ -10,7 +10,7 @@ ghost use Rattle.flips.specs.Drawn.{drawn, all_fit, flips_answer, ChangedWhere};
 use crate::list::{make_flips, undo_flips};
 use crate::row::{row_count, row_flips};
 use arrayvec::ArrayVec;
-use block::Block;
+use block::{Block, Run};
 use geometry::Row;
 use refusals::Refusal;
 
@@ -28,16 +28,21 @@ pub trait RowSource {
 }
 
 /// Makes the flips of the first `count` rows again, the last first, from rows that are computed again: the drawing before them comes back.
-fn undo_rows<B: Block, S: RowSource>(block: &mut B, source: &S, count: usize)
+/// In `flips` there is room for those of a row.
+fn undo_rows<B: Block, S: RowSource>(
+    block: &mut B,
+    source: &S,
+    count: usize,
+    flips: &mut ArrayVec<Run, 64>,
+)
     requires sound { B.sound block.old }
     requires within { count ≤ B.edge block.old * B.edge block.old }
     ensures kept { Keeps B.sound B.ties B.edge B.fits block.old block.new }
     ensures back { (d : ℕ → Bool) → B.fits block.old d ≡ true → all_fit (B.edge block.old) (B.fits block.old) d (first_rows (B.edge block.old) (S.solid source.now) count) ≡ true → B.drawing block.old ≡ drawn (B.edge block.old) d (first_rows (B.edge block.old) (S.solid source.now) count) → B.drawing block.new ≡ d }
 {
     let side = block.side();
-    let mut flips = ArrayVec::new();
     for i in (0..count).rev() {
-        row_flips(source, side, i, &mut flips);
+        row_flips(source, side, i, flips);
         undo_flips(block, flips.as_slice());
     }
 }
@@ -59,7 +64,7 @@ pub fn flip_rows<B: Block, S: RowSource>(block: &mut B, source: &S) -> Result<us
     for i in 0..row_count(side) {
         row_flips(source, side, i, &mut flips);
         if let Err(why) = make_flips(block, flips.as_slice()) {
-            undo_rows(block, source, i);
+            undo_rows(block, source, i, &mut flips);
             return Err(why);
         }
         count += flips.len();
